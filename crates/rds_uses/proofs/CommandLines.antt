@@ -8,10 +8,6 @@ use Rattle.rds_tool.specs.declared.job.Ignored.TheVariants as ignored
 use Rattle.rds_tool.specs.declared.job.Job.TheVariants as job
 use Rattle.rds_tool.specs.declared.job.Request.TheVariants as request
 
--- two answers that are computed are the same
-same : {T E : Type 0} (computed : Result T E) (x y : T) → computed ≡ Ok x → computed ≡ Ok y → y ≡ x
-same computed x y is given = let both : Ok x ≡ Ok y = sym is ∙ given in cc
-
 -- ---- gaps
 
 abbrev pub scan_with_bad_gaps : List Text
@@ -25,38 +21,23 @@ pub has_bad_gaps : HasBadGaps (entries_of scan_with_bad_gaps)
 unfolding walked
 has_bad_gaps = refl
 
--- ---- two rules of loss
-
-abbrev pub list_by_two_losses : List Text
-list_by_two_losses = codes "rds" ∷ codes "list" ∷ codes "--share" ∷ codes "2" ∷ codes "--loss" ∷ codes "10" ∷ []
-
-abbrev losses_asked : Asked
-losses_asked = record {
-  request = request.Job (job.List (record { hex = false; bits = None; gaps = [] })
-      (record { burst = 2; reach = 3; loss = Share 2 64; workers = 4; cuts = cuts.Even 16 })) false;
-  ignored = Some ignored.Loss;
-}
-
-pub ignores_the_loss : (asked : Asked) → asked_by (entries_of list_by_two_losses) ≡ Ok asked → (asked.ignored ≡ Some ignored.Loss) × (asked.request ≡ losses_asked.request)
-unfolding walked
-ignores_the_loss asked is =
-    let it = same (asked_by (entries_of list_by_two_losses)) losses_asked asked refl is in
-    (ap (λ (a : Asked). a.ignored) it, ap (λ (a : Asked). a.request) it)
-
 -- ---- a stream
 
 abbrev pub follow_with_a_gap : List Text
-follow_with_a_gap = codes "rds" ∷ codes "follow" ∷ codes "--of" ∷ codes "3" ∷ codes "--share" ∷ codes "2" ∷ codes "--gaps" ∷ codes "104-105" ∷ []
+follow_with_a_gap = codes "rds" ∷ codes "follow" ∷ codes "--of" ∷ codes "3" ∷ codes "--share" ∷ codes "2" ∷ codes "--loss" ∷ codes "10" ∷ codes "--gaps" ∷ codes "104-105" ∷ []
 
 abbrev stream_asked : Asked
 stream_asked = record {
   request = request.Follow (record { hex = false; bits = None; gaps = (104, 105) ∷ [] }) (record { burst = 2; reach = 3; loss = Share 2 3 }) 1;
-  ignored = None;
+  ignored = Some ignored.Loss;
 }
 
-pub has_the_gap : (asked : Asked) → asked_by (entries_of follow_with_a_gap) ≡ Ok asked → asked.request ≡ stream_asked.request
+pub has_the_gap : (asked : Asked) → asked_by (entries_of follow_with_a_gap) ≡ Ok asked → (asked.ignored ≡ Some ignored.Loss) × (asked.request ≡ stream_asked.request)
 unfolding walked
-has_the_gap asked is = ap (λ (a : Asked). a.request) (same (asked_by (entries_of follow_with_a_gap)) stream_asked asked refl is)
+has_the_gap asked is =
+    let both : Ok stream_asked ≡ Ok asked = is in
+    let it : asked ≡ stream_asked = cc in
+    (ap (λ (a : Asked). a.ignored) it, ap (λ (a : Asked). a.request) it)
 
 no_fault_of_stream : faults_of follow_with_a_gap ≡ []
 unfolding walked bundle_met flags_pass walk_passes flags_fault walk_fault defaults_fault

@@ -1,30 +1,28 @@
 -- The outcomes of jobs over the bits of bytes.
-use Rattle.rds_uses.proofs.Names.{BadCutting, Bool, Err, Input, Job, List, ListsEndWithTotals, None, Ok, PlanOf, Result, RuleNumbers, Settings, Signal, Some, ToolError, Writes, WritesPrefix, [], and_then, ap, append-nil, ap₂, arith, cond, crew_of, false, groups_in, length, length_of, list_text, plan_of, refl, result_of_job, result_unwrap_or, rows_so_far, sent_listing, stream_input, subst, sym, text_of_task, true, whole_input, ℕ, ◌*◌, ◌++◌, ◌^◌, ◌∙◌, ◌∷◌, ◌≡◌, ◌≤◌}
+use Rattle.rds_uses.proofs.Names.{BadCutting, Bool, Err, Input, Job, List, ListsEndWithTotals, None, Ok, PlanOf, Result, RuleNumbers, Settings, Signal, Some, RdsError, Writes, WritesPrefix, [], and_then, ap, append-nil, ap₂, arith, cond, crew_of, false, groups_in, length, length_of, list_text, plan_of, refl, result_of_job, result_unwrap_or, rows_so_far, sent_listing, stream_input, subst, sym, text_of_task, true, whole_input, ℕ, ◌*◌, ◌++◌, ◌^◌, ◌∙◌, ◌∷◌, ◌≡◌, ◌≤◌}
 use Rattle.rds_uses.specs.Jobs.{IsListBy, all_bits, plain}
 use Rattle.std.proofs.lemmas.Bool.Decides.{nat_tests}
+use Rattle.rds_tool.proofs.JobLaws.{both, list_of, same-ok}
 use Rattle.rds_tool.specs.{Cuts.cuts_bits, Input.recording_of, Laws.EncodedGroupsAreListed, Rules.rules_of, WellFormed.DifferInGaps, WellFormed.GapsHideBits, WellFormed.IsWellFormed, WellFormed.ListsAreWellFormed, WellFormed.RowsBeginLists}
 use Rattle.rds_tool.specs.declared.job.Job.TheVariants as job
 use Rattle.rds_tool.specs.declared.task.Task.TheVariants as task
-
-abbrev is_text : List ℕ → Result (List ℕ) ToolError
-is_text text = Ok text
 
 pub all_bits-few : (bytes : List ℕ) → 8 * length bytes ≤ 2 ^ 36 → recording_of plain bytes ≡ Ok (all_bits bytes)
 all_bits-few bytes few = grind (arith, nat_tests)
 
 -- what a writer holds afterwards is what it held before and the text
-pub added : (result_of_job : Result (List ℕ) ToolError) (old new : List ℕ) → Writes (Some old) (Some new) result_of_job
+pub added : (result_of_job : Result (List ℕ) RdsError) (old new : List ℕ) → Writes (Some old) (Some new) result_of_job
     → (more : List ℕ) × (result_of_job ≡ Ok more) × (new ≡ old ++ more)
 added (Ok text) old new is = (text, refl, is)
 added (Err e) old new is = absurd is
 
 -- what an empty writer holds afterwards is the text
-pub written : (result_of_job : Result (List ℕ) ToolError) (new : List ℕ) → Writes (Some []) (Some new) result_of_job → result_of_job ≡ Ok new
+pub written : (result_of_job : Result (List ℕ) RdsError) (new : List ℕ) → Writes (Some []) (Some new) result_of_job → result_of_job ≡ Ok new
 written (Ok text) new is = ap Ok (sym is)
 written (Err e) new is = absurd is
 
 -- a vector that a sink gives back: what it held before the sink was made, and then what the sink took
-module _ (out : List ℕ → Result (List ℕ) ToolError) (given bytes first begun taken last taken' text : List ℕ) (all : given ≡ bytes) (same : begun ≡ first)
+module _ (out : List ℕ → Result (List ℕ) RdsError) (given bytes first begun taken last taken' text : List ℕ) (all : given ≡ bytes) (same : begun ≡ first)
     (none : taken ≡ []) (tied : text ≡ last ++ taken') where
   before : begun ++ taken ≡ first
   before = ap₂ (λ x y. x ++ y) same none ∙ append-nil first
@@ -43,35 +41,21 @@ module _ (out : List ℕ → Result (List ℕ) ToolError) (given bytes first beg
       (subst (λ x. WritesPrefix (Some x) (Some (last ++ taken')) (out bytes)) before
       (subst (λ x. WritesPrefix (Some (begun ++ taken)) (Some (last ++ taken')) (out x)) all w)))
     where
-      parted : (r : Result (List ℕ) ToolError) → WritesPrefix (Some first) (Some text) r → (more : List ℕ) × (rest : List ℕ) × (r ≡ Ok (more ++ rest)) × (text ≡ first ++ more)
+      parted : (r : Result (List ℕ) RdsError) → WritesPrefix (Some first) (Some text) r → (more : List ℕ) × (rest : List ℕ) × (r ≡ Ok (more ++ rest)) × (text ≡ first ++ more)
       parted (Ok whole) (more, rest, split, wrote) = (more, rest, ap Ok split, wrote)
       parted (Err e) wrote = absurd wrote
 
-module _ (make : Signal → List ℕ) (bits : Signal) (text : List ℕ) where
-  if_cut : (fits : Bool) → and_then (cond fits (Ok bits) (Err BadCutting)) (λ bits. Ok (make bits)) ≡ Ok text → text ≡ make bits
-  if_cut true is = let same : Ok (make bits) ≡ Ok text = is in cc
-  if_cut false is = let none : Err BadCutting ≡ Ok text = is in cc
-
-module _ (bytes text : List ℕ) (few : 8 * length bytes ≤ 2 ^ 36) (rules : RuleNumbers) (settings : Settings) where
-  list_if_crew : (crew : Result (Unit {0}) ToolError)
-      → and_then (and_then (and_then crew (λ _. Ok (record { rules = rules; workers = settings.workers; cuts = settings.cuts }))) (λ plan. Ok (task.List plain plan)))
-      (λ task. text_of_task task bytes) ≡ Ok text
-      → text ≡ list_text rules (all_bits bytes)
-  list_if_crew (Ok done) is = if_cut (list_text rules) (all_bits bytes) text (cuts_bits settings.cuts (length_of (all_bits bytes))) (rw (all_bits-few bytes few) at is)
-  list_if_crew (Err e) is = let none : Err e ≡ Ok text = is in cc
-
-  pub list-text : rules_of settings ≡ Ok rules → result_of_job (job.List plain settings) bytes ≡ Ok text → text ≡ list_text rules (all_bits bytes)
-  list-text by is = list_if_crew (crew_of settings) (rw by at is)
-
 -- what a listing writes into an empty writer
-pub listed : (bytes new : List ℕ) (rules : RuleNumbers) (job : Job) → 8 * length bytes ≤ 2 ^ 36 → IsListBy job rules → result_of_job job bytes ≡ Ok new
+pub listed : (bytes new : List ℕ) (rules : RuleNumbers) (asked : Job) → 8 * length bytes ≤ 2 ^ 36 → IsListBy asked rules → result_of_job asked bytes ≡ Ok new
     → new ≡ list_text rules (all_bits bytes)
-listed bytes new rules job few by is = list-text bytes new few rules by.0 by.2 (rw by.1 at is)
+listed bytes new rules asked few by is =
+    let list = list_of plain by.0 bytes new (rw by.1 at is) in
+    let ruled = both (rules_of by.0) _ list.plan list.planned in
+    let made = both (crew_of by.0) _ list.plan ruled.2 in
+    let same : list.plan.rules ≡ rules = ap (λ (p : PlanOf). p.rules) (sym (same-ok _ list.plan made.2)) ∙ same-ok ruled.0 rules (sym ruled.1 ∙ by.2) in
+    list.is_listing ∙ ap₂ list_text same (same-ok list.recording (all_bits bytes) (sym list.recorded ∙ all_bits-few bytes few))
 
 -- ---- laws of jobs
-
-pub same-text : (text other : List ℕ) → is_text text ≡ is_text other → text ≡ other
-same-text text other same = ap (λ (r : Result (List ℕ) ToolError). result_unwrap_or r text) same
 
 -- a list of what was encoded
 pub sent-text : EncodedGroupsAreListed → (hex : Bool) (settings : Settings) (encode list : Job) (lines bytes held listing : List ℕ)
@@ -80,7 +64,7 @@ pub sent-text : EncodedGroupsAreListed → (hex : Bool) (settings : Settings) (e
     → (words : List ℕ) (groups : List (List ℕ)) → groups_in lines ≡ Ok (words ∷ groups) → listing ≡ sent_listing words groups
 sent-text law hex settings encode list lines bytes held listing first next same encoded listed words groups spelled =
     law hex settings lines words groups listing spelled
-    (ap (λ (made : Result (List ℕ) ToolError). and_then made (result_of_job (job.List (whole_input hex) settings)))
+    (ap (λ (made : Result (List ℕ) RdsError). and_then made (result_of_job (job.List (whole_input hex) settings)))
     (sym (ap (λ (asked : Job). result_of_job asked lines) first) ∙ encoded)
     ∙ sym (ap (λ (asked : Job). result_of_job asked bytes) next) ∙ ap (result_of_job list) (sym same) ∙ listed)
 
@@ -91,9 +75,9 @@ pub before-totals : ListsEndWithTotals → (input : Input) (settings : Settings)
 before-totals law input settings list totals held listing counts first next listed counted =
     let ends = law input settings held in (
       ends.0,
-      same-text listing (ends.0 ++ counts)
+      same-ok listing (ends.0 ++ counts)
           (sym listed ∙ ap (λ (asked : Job). result_of_job asked held) first ∙ ends.1
-          ∙ ap (λ (made : Result (List ℕ) ToolError). and_then made (λ text. Ok (ends.0 ++ text)))
+          ∙ ap (λ (made : Result (List ℕ) RdsError). and_then made (λ text. Ok (ends.0 ++ text)))
           (sym (ap (λ (asked : Job). result_of_job asked held) next) ∙ counted)),
     )
 
@@ -108,7 +92,7 @@ well-formed law asked held listing written input settings is =
 pub alike : GapsHideBits → (asked : Job) (input : Input) (settings : Settings) (held other one two : List ℕ) → asked ≡ job.List input settings → input.hex ≡ false
     → DifferInGaps input.gaps held other → result_of_job asked held ≡ Ok one → result_of_job asked other ≡ Ok two → one ≡ two
 alike law asked input settings held other one two is bytes differ first second =
-    same-text one two
+    same-ok one two
     (sym (subst (λ (j : Job). result_of_job j held ≡ Ok one) is first)
     ∙ sym (law input settings held other bytes differ).0 ∙ subst (λ (j : Job). result_of_job j other ≡ Ok two) is second)
 

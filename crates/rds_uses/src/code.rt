@@ -4,35 +4,29 @@ ghost use Rattle.std.specs.Int.{bit_at, Count.ones};
 ghost use Rattle.rds_code.specs.{declared.offset.Offset.Offset as AnOffset, declared.offset.Offset.TheVariants.A, declared.offset.Offset.TheVariants.B, declared.offset.Offset.TheVariants.C, declared.offset.Offset.TheVariants.Cx, declared.offset.Offset.TheVariants.D, declared.reading.Wanted.TheVariants.OnlyCx, declared.reading.Reading.Reading as AReading, declared.reading.Reading.TheVariants.Valid, declared.reading.Reading.TheVariants.Corrected, Remainder.IsRemainder, Remainder.generator, Remainder.rem, Generator.HasPeriod, Generator.IsCandidate, Generator.TellsApart, Generator.parity_rows, Generator.remainder_by, Generator.syndrome, Generator.times_power, Offsets.number, Bursts.IsBurst, Bursts.bursts, Bursts.burst_length, Reading.FitsAlone, Reading.IsReading, Encoding.IsBlockOf, Encoding.third_offset, Correction.version_burst};
 
 use rds_code::{
-    BlockNumber, Burst, BurstLimit, BurstTable, CodeError, Offset, Outcomes, Reading, Wanted,
+    BlockNumber, Burst, BurstLimit, BurstTable, Offset, Outcomes, RdsError, Reading, Wanted,
     encode_block, encode_group, laws, offset_of, plain, read_block, rem26,
 };
 use std::alloc::Global;
 
 // ---- remainders
 
-/// The ten bits that differ from a block by a multiple of the generator are its remainder: no others do. Each block has some.
+/// The ten bits that differ from a block by a multiple of the generator are its remainder: no others do. Each block has some. Division
+/// bit by bit, and the standard's syndrome times x^16, give the same. Of the polynomials with its period, only the generator and its
+/// mirror tell all bursts apart.
 pub fn only_remainder(w: u32, remainder: u16) -> (u16, u16)
     requires block { w < 2 ^ 26 }
     requires remainder { IsRemainder w remainder }
     ensures only { result ≡ (remainder, remainder) }
     ensures some { (v : ℕ) → v < 2 ^ 26 → IsRemainder v (rem v) }
-{
-    laws::blocks_have_one_remainder();
-    (rem26(w), plain::rem26(w))
-}
-
-/// Division bit by bit, and the standard's syndrome times x^16, give the same remainder. Of the polynomials with its period, only the
-/// generator and its mirror tell all bursts apart.
-pub fn shifted_in(w: u32) -> u16
-    requires { w < 2 ^ 26 }
-    ensures divided { remainder_by generator 26 w ≡ result }
-    ensures multiplied { times_power generator 16 (syndrome parity_rows w) ≡ result }
+    ensures divided { remainder_by generator 26 w ≡ result.0 }
+    ensures multiplied { times_power generator 16 (syndrome parity_rows w) ≡ result.0 }
     ensures two { (g : ℕ) → IsCandidate g → HasPeriod g 341 → TellsApart g → (g ≡ 0x5B9) ⊎ (g ≡ 0x4ED) }
 {
+    laws::blocks_have_one_remainder();
     laws::generator_is_one_of_two();
     laws::syndromes_are_remainders();
-    rem26(w)
+    (rem26(w), plain::rem26(w))
 }
 
 /// The remainder of a damaged block is that of the block as it was sent, and to it that of the damage.
@@ -55,7 +49,7 @@ pub(crate) fn damaged(sent: u32, damage: u32) -> u32
     sent ^ damage
 }
 
-// ---- offsets
+// ---- offsets, numbers and limits
 
 /// An offset is known by its word, and counted from 1 to 4. C' is printed as `Cx`.
 pub fn known_by_word(offset: Offset) -> (Option<Offset>, usize, &'static str)
@@ -68,75 +62,58 @@ pub fn known_by_word(offset: Offset) -> (Option<Offset>, usize, &'static str)
     (offset_of(offset.word()), index, offset.name())
 }
 
-/// Block 1 comes after block 4, and there is no block 5.
-pub fn number_behind_last() -> Option<u8>
-    ensures { result ≡ Some 1 }
+/// Block 1 comes after block 4, and there is no block 5. Bursts of three bits may be corrected, and those of six may not.
+pub fn number_and_limit() -> Option<(u8, u8)>
+    ensures { result ≡ Some (1, 3) }
 {
-    match BlockNumber::new(5) {
-        Some(_) => None,
-        None => Some(BlockNumber::new(4)?.next().get()),
+    match (BlockNumber::new(5), BurstLimit::new(6)) {
+        (None, None) => {
+            let next = BlockNumber::new(4)?.next();
+            Some((next.get(), BurstLimit::new(3)?.bits()))
+        }
+        _ => None,
     }
 }
 
 // ---- bursts
 
-/// A burst leaves a remainder, by which it is told from all others, and is in the list of bursts.
-pub fn told_apart(one: Burst, other: Burst) -> bool
+/// A burst leaves a remainder, by which it is told from all others, and is in the list of bursts. Its span, ones and outcome are indices
+/// of tables of 5, 5 and 11.
+pub fn told_apart(one: Burst, other: Burst) -> (bool, [usize; 3])
     requires { rem one ≡ rem other }
-    ensures same { result ≡ true }
+    ensures same { result.0 ≡ true }
     ensures listed { Contains (bursts 5) one }
+    ensures span { (slice_index result.1 0 + 1 ≡ burst_length one) × (slice_index result.1 0 < 5) }
+    ensures ones { (slice_index result.1 1 + 1 ≡ ones one) × (slice_index result.1 1 < 5) }
+    ensures outcome { slice_index result.1 2 < 11 }
 {
     laws::bursts_have_their_remainders();
     laws::bursts_are_listed();
     let (pattern, _other) = (one.pattern(), other.pattern());
-    one == other && rem26(pattern) != 0
+    let span = (one.span() - 1) as usize;
+    let outcome = (one.outcome() - 3) as usize;
+    let indices = [span, (one.ones() - 1) as usize, outcome];
+    (one == other && rem26(pattern) != 0, indices)
 }
 
-/// A burst's span, ones and outcome, as indices of tables of 5, 5 and 11.
-pub fn indices_of(burst: Burst) -> (usize, usize, usize)
-    ensures span { (result.0 + 1 ≡ burst_length burst) × (result.0 < 5) }
-    ensures ones { (result.1 + 1 ≡ ones burst) × (result.1 < 5) }
-    ensures outcome { result.2 < 11 }
-{
-    (
-        (burst.span() - 1) as usize,
-        (burst.ones() - 1) as usize,
-        (burst.outcome() - 3) as usize,
-    )
-}
-
-/// The table finds each burst by its remainder, within its own span.
-pub fn found_again(table: &BurstTable, burst: Burst) -> Option<Burst>
+/// The table finds each burst by its remainder, within its own span. The burst that it finds has the remainder that was asked for, and the
+/// span. An undamaged block has none.
+pub fn found_again(table: &BurstTable, burst: Burst, limit: BurstLimit, asked: u16) -> Option<Burst>
+    requires { asked < 1024 }
     ensures { result ≡ Some burst }
 {
+    if let Some(found) = table.find(asked, limit) {
+        let is_asked = rem26(found.pattern()) == asked && found.span() <= limit.bits();
+        prove!(is_asked && asked != 0);
+    }
     let limit = BurstLimit::new(u32::from(burst.span()))?;
     table.find(rem26(burst.pattern()), limit)
 }
 
-/// The burst that the table finds has the remainder that was asked for, and the span. An undamaged block has none.
-pub fn found_as_asked(table: &BurstTable, remainder: u16, limit: BurstLimit) -> bool
-    requires remainder { remainder < 1024 }
-    ensures found { result ≡ true }
-{
-    match table.find(remainder, limit) {
-        Some(burst) => {
-            remainder != 0 && rem26(burst.pattern()) == remainder && burst.span() <= limit.bits()
-        }
-        None => true,
-    }
-}
-
 // ---- blocks
 
-/// Whether a window is the block that carries `info` with this offset: no other one does.
-pub fn is_the_block(w: u32, info: u16, offset: Offset) -> bool
-    ensures { IsTrue result ↔ IsBlockOf w info offset }
-{
-    laws::blocks_are_read_as_sent();
-    encode_block(info, offset) == w
-}
-
-/// A block that is sent is valid, by outcomes for any limit. After a block 2 with its version bit set, only C' is wanted for block 3.
+/// A block that is sent is valid, by outcomes for any limit, and no other window is that block. After a block 2 with its version bit set,
+/// only C' is wanted for block 3.
 pub fn sent_and_told(
     alloc: Global,
     table: &BurstTable,
@@ -144,74 +121,52 @@ pub fn sent_and_told(
     info: u16,
     offset: Offset,
     wanted: Wanted,
-) -> Result<(u8, Wanted), CodeError>
+    w: u32,
+) -> Result<(u8, Wanted, bool), RdsError>
     ensures outcome { IfOk result (λ told. told.0 ≡ 1) }
     ensures wanted { IfOk result (λ told. offset ≡ B → bit_at info 11 ≡ 1 → told.1 ≡ OnlyCx) }
+    ensures block { IfOk result (λ told. IsTrue told.2 ↔ IsBlockOf w info offset) }
 {
     laws::blocks_are_read_as_sent();
     let outcomes = Outcomes::new(alloc, table, limit)?;
     prove!(outcomes.limit().bits() == limit.bits());
     let sent = encode_block(info, offset);
     let outcome = outcomes.of_block(sent, offset.number(), wanted);
-    Ok((outcome, outcomes.wanted_after(sent)))
+    Ok((outcome, outcomes.wanted_after(sent), sent == w))
 }
 
-/// Bursts of three bits may be corrected, and those of six may not.
-pub fn limit_of_three() -> Option<u8>
-    ensures { result ≡ Some 3 }
-{
-    match (BurstLimit::new(3), BurstLimit::new(6)) {
-        (Some(limit), None) => Some(limit.bits()),
-        _ => None,
-    }
-}
-
-/// Block 1, 2 or 4, sent, damaged by one burst within the limit, and read: the word that was sent, and the burst.
+/// Block 1, 2 or 4, sent, damaged by one burst within the limit, and read: the word that was sent, and the burst. Block 3 of version A
+/// likewise, if only C is wanted. One burst makes of it a valid one of version B.
 pub fn damaged_and_read(
     table: &BurstTable,
     info: u16,
     offset: Offset,
     burst: Burst,
     limit: BurstLimit,
-) -> Reading
-    requires not_third { number offset ≢ 3 }
-    requires burst { IsBurst limit burst }
-    ensures { result ≡ Corrected offset info burst }
+) -> (Reading, Reading, Option<Offset>)
+    requires { IsBurst limit burst }
+    ensures others { number offset ≢ 3 → result.0 ≡ Corrected offset info burst }
+    ensures third { burst ≢ version_burst → result.1 ≡ Corrected C info burst }
+    ensures that_one { burst ≡ version_burst → result.2 ≡ Some Cx }
 {
     prove!(limit.bits() <= 5);
     laws::damaged_blocks_are_corrected();
     let block = damaged(encode_block(info, offset), burst.pattern());
-    read_block(table, block, offset.number(), Wanted::Either, limit)
-}
-
-/// Block 3 of version A likewise, if only C is wanted.
-pub fn damaged_third(table: &BurstTable, info: u16, burst: Burst, limit: BurstLimit) -> Reading
-    requires burst { IsBurst limit burst }
-    requires not_that_one { burst ≢ version_burst }
-    ensures { result ≡ Corrected C info burst }
-{
-    laws::damaged_blocks_are_corrected();
-    let block = damaged(encode_block(info, Offset::C), burst.pattern());
-    read_block(table, block, BlockNumber::THREE, Wanted::OnlyC, limit)
-}
-
-/// The one burst that makes of block 3 of version A a valid one of version B.
-pub fn taken_for_other_version(info: u16, burst: Burst) -> Option<Offset>
-    requires { burst ≡ version_burst }
-    ensures { result ≡ Some Cx }
-{
-    laws::damaged_blocks_are_corrected();
-    let block = damaged(encode_block(info, Offset::C), burst.pattern());
-    offset_of(rem26(block))
+    let third = damaged(encode_block(info, Offset::C), burst.pattern());
+    (
+        read_block(table, block, offset.number(), Wanted::Either, limit),
+        read_block(table, third, BlockNumber::THREE, Wanted::OnlyC, limit),
+        offset_of(rem26(third)),
+    )
 }
 
 /// Who reads by the rule reads this: a window is corrected only if exactly one pair of an offset and a burst fits.
 pub fn read_by_the_rule(
     table: &BurstTable,
+    limit: BurstLimit,
     w: u32,
     number: BlockNumber,
     wanted: Wanted,
-    limit: BurstLimit,
 ) -> Reading
     requires block { w < 2 ^ 26 }
     ensures rule { (r : AReading) → IsReading w number wanted limit r → r ≡ result }

@@ -2,17 +2,14 @@
 ghost use Rattle.std.specs.Prelude.{◌≡◌, ◌⊎◌, ◌++◌, ◌∷◌, [], IfErr, IfOk, IsErrAnd, None, OnOk, Some, codes, false, string_bytes, true};
 ghost use Rattle.rds_sync.specs.declared.loss.Loss.TheVariants.{Share};
 ghost use Rattle.rds_tool.specs.declared.job.Job.TheVariants as AJob;
-ghost use Rattle.rds_tool.specs.declared.job.Cuts.TheVariants.{Even};
 
 use rds_tool::{Asked, CliFault, FaultKind, Ignored, Job, Request, asked_of, job_of};
 use std::alloc::Global;
 
 static SCAN_WITH_BAD_GAPS: [&str; 4] = ["rds", "scan", "--gaps", "5"];
 
-static LIST_BY_TWO_LOSSES: [&str; 6] = ["rds", "list", "--share", "2", "--loss", "10"];
-
-static FOLLOW_WITH_A_GAP: [&str; 8] = [
-    "rds", "follow", "--of", "3", "--share", "2", "--gaps", "104-105",
+static FOLLOW_WITH_A_GAP: [&str; 10] = [
+    "rds", "follow", "--of", "3", "--share", "2", "--loss", "10", "--gaps", "104-105",
 ];
 
 static HELP_OF_LIST: [&str; 3] = ["rds", "list", "--help"];
@@ -25,21 +22,12 @@ pub fn scan_with_bad_gaps(alloc: Global) -> Result<Asked, CliFault>
     asked_of(alloc, SCAN_WITH_BAD_GAPS.as_slice())
 }
 
-/// `rds list --share 2 --loss 10` asks for a list, and warns of the loss, though 10 is the default.
-pub fn list_with_a_warning(alloc: Global) -> Result<Asked, CliFault>
-    ensures { IfOk result (λ asked. (asked.ignored ≡ Some Ignored.Loss) × (asked.request
-        ≡ Request.Job (AJob.List (record { hex = false; bits = None; gaps = [] })
-        (record { burst = 2; reach = 3; loss = Share 2 64; workers = 4; cuts = Even 16 })) false)) }
-{
-    asked_of(alloc, LIST_BY_TWO_LOSSES.as_slice())
-}
-
-/// `rds follow --of 3 --share 2 --gaps 104-105` follows a stream to its end, with this gap and this share, by one worker. That is no job,
-/// and no words were wrong but for that.
+/// `rds follow --of 3 --share 2 --loss 10 --gaps 104-105` follows a stream to its end, with this gap and this share, by one worker, and warns
+/// of the loss, though 10 is the default. That is no job, and no words were wrong but for that.
 pub fn follow_with_a_gap(alloc: Global) -> (Result<Asked, CliFault>, Result<Job, CliFault>)
-    ensures asked { IfOk result.0 (λ asked. asked.request
+    ensures asked { IfOk result.0 (λ asked. (asked.ignored ≡ Some Ignored.Loss) × (asked.request
         ≡ Request.Follow (record { hex = false; bits = None; gaps = (104, 105) ∷ [] })
-        (record { burst = 2; reach = 3; loss = Share 2 3 }) 1) }
+        (record { burst = 2; reach = 3; loss = Share 2 3 }) 1)) }
     ensures no_job { OnOk result.1 ⊥ }
     ensures fault { IfErr result.1 (λ fault. (fault.kind ≡ FaultKind.Words) ⊎ (fault.kind ≡ FaultKind.Memory)) }
 {

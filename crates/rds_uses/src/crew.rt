@@ -1,12 +1,14 @@
 //! Facts that a user of `rds_crew` relies on: the report of a crew is that of one decoder, and each number that is dealt is drawn once,
 //! by whichever seat.
-ghost use Rattle.std.specs.Prelude.{◌≡◌, ◌<◌, ◌↔◌, ◌⊎◌, IfErr, IfOk, IsErrOf, ◌+◌, ◌≤◌, ◌^◌, All, IfSome, None, Some, false, length, true};
+ghost use Rattle.std.specs.Prelude.{◌≡◌, ◌<◌, ◌↔◌, ◌⊎◌, IfErr, IfOk, IsErrOf, ◌+◌, ◌≤◌, ◌^◌, All, IfSome, None, Some, length, true};
 ghost use Rattle.rds_stream.specs.Recording.{length_of};
-ghost use Rattle.rds_crew.specs.{declared.error.CrewError.TheVariants.CrewRange, declared.error.CrewError.TheVariants.OutOfMemory, declared.deal.Event.TheVariants.Draw, declared.deal.Event.TheVariants.Progress, Seats.DidWholeRun, Seats.DrewAllOnce, Seats.HasRested, Seats.IsFresh, Seats.IsOf, Seats.seat_after};
+ghost use Rattle.rds_crew.specs.{declared.deal.Event.TheVariants.Draw, declared.deal.Event.TheVariants.Finish, declared.deal.Event.TheVariants.Progress, Seats.DidWholeRun, Seats.DrewAllOnce, Seats.HasRested, Seats.IsFresh, Seats.IsOf, Seats.seat_after};
+ghost use Rattle.rds_code.specs.declared.error.RdsError.TheVariants.{CrewRange, OutOfMemory};
 ghost use Rattle.rds_pieces.specs.Cutting.{IsCutting};
 ghost use Rattle.rds_sync.specs.{Decoding.listed, Report.report_items, Totals.totals_of};
 
-use rds_crew::{CrewError, Dealer, OpenGate, Seat, decode_crew};
+use rds_code::RdsError;
+use rds_crew::{Dealer, OpenGate, Seat, decode_crew};
 use rds_pieces::{Cutting, RecordingWork};
 use rds_stream::Recording;
 use rds_sync::{Report, Rules};
@@ -21,7 +23,7 @@ pub fn decoded_by_any<R: Threads + Sync>(
     rules: &Rules,
     cutting: &Cutting,
     workers: u32,
-) -> Result<Report, CrewError>
+) -> Result<Report, RdsError>
     requires { IsCutting (length_of recording.now) cutting.now }
     ensures items { IfOk result (λ report. report.items ≡ listed recording.now rules.now (report_items recording.now rules.now)) }
     ensures totals { IfOk result (λ report. report.totals ≡ totals_of (report_items recording.now rules.now)) }
@@ -34,56 +36,47 @@ pub fn decoded_by_any<R: Threads + Sync>(
 
 // ---- dealers
 
-/// A dealer with one seat, which has drawn nothing.
-pub fn with_one_seat(alloc: Global, pieces: u64) -> Option<(Dealer, Seat)>
+/// A dealer with one seat, which has drawn nothing. One without seats is refused. For 256 nothing but memory can be.
+pub fn with_one_seat(
+    alloc: Global,
+    pieces: u64,
+) -> (Option<(Dealer, Seat)>, Option<RdsError>, Option<RdsError>)
     requires { pieces < 2 ^ 63 }
-    ensures pieces { IfSome result (λ made. made.0.name.pieces ≡ pieces) }
-    ensures seats { IfSome result (λ made. made.0.seats ≡ 1) }
-    ensures seat { IfSome result (λ made. IsFresh made.0 made.1) }
+    ensures pieces { IfSome result.0 (λ made. made.0.name.pieces ≡ pieces) }
+    ensures seats { IfSome result.0 (λ made. made.0.seats ≡ 1) }
+    ensures seat { IfSome result.0 (λ made. IsFresh made.0 made.1) }
+    ensures none { result.1 ≡ Some CrewRange }
+    ensures all { IfSome result.2 (λ error. error ≡ OutOfMemory) }
 {
-    let (dealer, mut seats) = Dealer::new(alloc, pieces, 1).ok()?;
-    let seat = seats.pop()?;
-    Some((dealer, seat))
-}
-
-/// A dealer without seats is refused. For 256 nothing but memory can be.
-pub fn refused_seats(alloc: Global) -> (Option<CrewError>, Option<CrewError>)
-    ensures none { result.0 ≡ Some CrewRange }
-    ensures all { IfSome result.1 (λ error. error ≡ OutOfMemory) }
-{
-    (
-        Dealer::new(alloc, 100, 0).err(),
-        Dealer::new(alloc, 100, 256).err(),
-    )
-}
-
-/// A number that is drawn is held, and can be finished; a seat that got none has rested.
-pub fn draw_and_finish(dealer: &Dealer, seat: Seat) -> (bool, Seat)
-    requires own { IsOf dealer.now seat }
-    requires empty { seat.view.held ≡ None }
-    ensures own { IsOf dealer.now result.1 }
-    ensures some { result.0 ≡ true → result.1.view.finished ≡ seat.view.finished + 1 }
-    ensures none { result.0 ≡ false → HasRested result.1 }
-{
-    let (number, holder) = dealer.draw(seat);
-    match number {
-        Some(j) => (true, dealer.finish(holder, j)),
-        None => (false, holder),
+    let none = Dealer::new(alloc, pieces, 0).err();
+    let all = Dealer::new(alloc, pieces, 256).err();
+    match Dealer::new(alloc, pieces, 1) {
+        Ok((dealer, mut seats)) => match seats.pop() {
+            Some(seat) => (Some((dealer, seat)), none, all),
+            None => (None, none, all),
+        },
+        Err(_) => (None, none, all),
     }
 }
 
-/// A draw of a seat: one event, unless it has ended, and the number that it then holds.
-pub fn seat_after_draw(dealer: &Dealer, seat: Seat) -> (Option<u64>, Seat)
+/// A draw of a seat is one event, unless it has ended. The number is then held, and can be finished; a seat that got none has rested.
+pub fn draw_and_finish(dealer: &Dealer, seat: Seat) -> (Option<u64>, Seat)
     requires own { IsOf dealer.now seat }
     requires empty { seat.view.held ≡ None }
-    ensures number { IfSome result.0 (λ j. j < dealer.now.name.pieces) }
-    ensures going { seat.view.ended ≡ 0 → result.1 ≡ seat_after seat (Draw result.0) }
+    ensures own { IsOf dealer.now result.1 }
+    ensures number { IfSome result.0
+        (λ j. (j < dealer.now.name.pieces) × (result.1 ≡ seat_after (seat_after seat (Draw (Some j))) Finish)) }
+    ensures none { result.0 ≡ None → HasRested result.1 }
+    ensures going { seat.view.ended ≡ 0 → result.0 ≡ None → result.1 ≡ seat_after seat (Draw None) }
     ensures ended { seat.view.ended ≡ 1 → result ≡ (None, seat) }
 {
     let (number, seat) = dealer.draw(seat);
     let is_told = seat.holding() == number && seat.ended() == number.is_none();
     prove!(is_told);
-    (number, seat)
+    match number {
+        Some(j) => (number, dealer.finish(seat, j)),
+        None => (None, seat),
+    }
 }
 
 /// Progress never falls, and is below the number of pieces while the seat holds one. It is one event of the seat.

@@ -1,5 +1,5 @@
 //! Facts that a user of lists of items, and of their totals, relies on.
-ghost use Rattle.std.specs.Prelude.{◌≡◌, ◌-◌, ◌+◌, ◌*◌, ◌≤◌, ◌^◌, ◌++◌, ◌∷◌, [], All, IfOk, IfSome, None, Some, drop, false, length, slice_get, slice_range, true, vec_capacity};
+ghost use Rattle.std.specs.Prelude.{◌≡◌, ◌-◌, ◌+◌, ◌*◌, ◌≤◌, ◌^◌, ◌++◌, ◌∷◌, [], All, IfOk, None, drop, false, length, slice_get, slice_range, true, vec_capacity};
 ghost use Rattle.rds_stream.specs.Recording.{length_of};
 ghost use Rattle.rds_sync.specs.{Advance.group_item, Counting.IsAtMost, Counting.IsRest, Counting.plus, Decoding.listed, Lawful.IsLawful, Step.items_of_end, Step.run as run_of, Totals.totals_of, declared.totals.Totals.Totals as TheTotals};
 
@@ -10,36 +10,28 @@ use std::snapshot::Snapshot;
 
 // ---- items of a recording
 
-/// The last item of a list.
-pub fn last_of(items: &Items, recording: &Recording, rules: &Rules) -> Option<Item>
-    requires source { items.now.source ≡ recording.now }
-    requires rules { items.now.rules ≡ rules.now }
-    ensures some { IfSome result (λ item. slice_get items.now.list (length items.now.list - 1) ≡ Some item) }
-    ensures none { result ≡ None → items.now.list ≡ [] }
-{
-    if items.is_empty() {
-        return None;
-    }
-    items.get(recording, rules, items.len() - 1)
-}
-
-/// The first item, by going over them, and any item by its index, once all are collected.
+/// The first item, by going over them, any item by its index, once all are collected, and the last.
 pub fn collected_at(
     alloc: Global,
     items: &Items,
     recording: &Recording,
     rules: &Rules,
     k: usize,
-) -> Result<(Option<Item>, Option<Item>), AllocError>
+) -> Result<(Option<Item>, Option<Item>, Option<Item>), AllocError>
     requires source { items.now.source ≡ recording.now }
     requires rules { items.now.rules ≡ rules.now }
-    ensures { IfOk result (λ found. (found.0 ≡ slice_get items.now.list 0) × (found.1 ≡ slice_get items.now.list k)) }
+    ensures first { IfOk result (λ found. found.0 ≡ slice_get items.now.list 0) }
+    ensures any { IfOk result (λ found. found.1 ≡ slice_get items.now.list k) }
+    ensures last { IfOk result (λ found. found.2 ≡ slice_get items.now.list (length items.now.list - 1)) }
 {
     let collected = items.to_vec(alloc, recording, rules)?;
-    Ok((
-        items.iter(recording, rules).next(),
-        collected.get(k).copied(),
-    ))
+    let first = items.iter(recording, rules).next();
+    let last = if items.is_empty() {
+        None
+    } else {
+        items.get(recording, rules, items.len() - 1)
+    };
+    Ok((first, collected.get(k).copied(), last))
 }
 
 // ---- lists that are made
@@ -51,24 +43,19 @@ pub fn none_yet(alloc: Global, recording: &Recording, rules: &Rules) -> Items
     Items::none(alloc, Snapshot::of(recording), rules)
 }
 
-/// One list and another of the same recording by the same rules. If there was no memory for that, the first stays as it was.
-pub fn appended_or_same(items: &mut Items, other: Items) -> bool
+/// The items of another list of the same recording by the same rules, from any number on. If there was no memory for that, the first stays
+/// as it was.
+pub fn appended_or_same(items: &mut Items, other: Items, first: usize) -> bool
     requires source { other.source ≡ items.old.source }
     requires rules { other.rules ≡ items.old.rules }
-    ensures appended { result ≡ true → items.new ≡ listed items.old.source items.old.rules (items.old.list ++ other.list) }
+    ensures appended { result ≡ true → items.new ≡ listed items.old.source items.old.rules (items.old.list ++ drop first other.list) }
     ensures same { result ≡ false → items.new ≡ items.old }
 {
-    items.append(other).is_ok()
-}
-
-/// The items of another list from any number on are appended, or the list stays as it was.
-pub fn appended_from(items: &mut Items, other: &Items, first: usize) -> bool
-    requires source { other.now.source ≡ items.old.source }
-    requires rules { other.now.rules ≡ items.old.rules }
-    ensures appended { result ≡ true → items.new ≡ listed items.old.source items.old.rules (items.old.list ++ drop first other.now.list) }
-    ensures same { result ≡ false → items.new ≡ items.old }
-{
-    items.append_from(other, first).is_ok()
+    if first == 0 {
+        items.append(other).is_ok()
+    } else {
+        items.append_from(&other, first).is_ok()
+    }
 }
 
 /// Items in a row, by a list and by its index, are those of the list.
@@ -117,34 +104,25 @@ pub fn closed_or_same(items: &mut Items, state: State) -> bool
 
 // ---- items by parts
 
-/// The items of a run, if there is room for one more in the part, which keeps its room. The run ends as it would have.
-pub fn run_in_a_part(decoder: Decoder<'_>, part: &mut Vec<Item>) -> (bool, State)
+/// The items of a run, and those of a list, if there is room for one more in their parts, which keep their room. The run ends as it would
+/// have.
+pub fn run_in_a_part(
+    decoder: Decoder<'_>,
+    items: ItemIter<'_>,
+    part: &mut Vec<Item>,
+    other: &mut Vec<Item>,
+) -> (bool, State, bool)
     ensures all { result.0 ≡ true → part.new.items ≡ decoder.entry.items }
-    ensures room { vec_capacity part.new ≡ vec_capacity part.old }
+    ensures listed { result.2 ≡ true → other.new.items ≡ items.entry }
+    ensures room { (vec_capacity part.new ≡ vec_capacity part.old) × (vec_capacity other.new ≡ vec_capacity other.old) }
     ensures end { result.1 ≡ decoder.entry.end }
 {
-    let mut decoder = decoder;
+    let (mut decoder, mut items) = (decoder, items);
     decoder.fill(part);
-    (part.len() < part.capacity(), decoder.end_state())
-}
-
-/// The items of a list, if there is room for one more in the part, which keeps its room.
-pub fn list_in_a_part(items: ItemIter<'_>, part: &mut Vec<Item>) -> bool
-    ensures all { result ≡ true → part.new.items ≡ items.entry }
-    ensures room { vec_capacity part.new ≡ vec_capacity part.old }
-{
-    let mut items = items;
-    items.fill(part);
-    part.len() < part.capacity()
-}
-
-/// The totals of two parts, which are small enough to be added up.
-pub fn totals_of_parts(one: &[Item], other: &[Item]) -> Totals
-    requires { length one.now + length other.now ≤ 2 ^ 37 }
-    ensures value { result ≡ plus (totals_of one.now) (totals_of other.now) }
-    ensures small { IsAtMost (2 ^ 10 * length one.now + 2 ^ 10 * length other.now) result }
-{
-    Totals::of(one).plus(Totals::of(other))
+    items.fill(other);
+    let is_run = part.len() < part.capacity();
+    let is_list = other.len() < other.capacity();
+    (is_run, decoder.end_state(), is_list)
 }
 
 // ---- totals
@@ -174,4 +152,13 @@ pub fn rest_and_all(all: Totals, part: Totals) -> Totals
     ensures { (rest : TheTotals) → IsRest part all rest → result ≡ plus rest all }
 {
     all.less(part).plus(all)
+}
+
+/// The totals of two parts, which are small enough to be added up.
+pub fn totals_of_parts(one: &[Item], other: &[Item]) -> Totals
+    requires { length one.now + length other.now ≤ 2 ^ 37 }
+    ensures value { result ≡ plus (totals_of one.now) (totals_of other.now) }
+    ensures small { IsAtMost (2 ^ 10 * length one.now + 2 ^ 10 * length other.now) result }
+{
+    Totals::of(one).plus(Totals::of(other))
 }

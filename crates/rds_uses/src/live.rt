@@ -1,26 +1,32 @@
 //! Promises to a user of the decoder of a stream.
-ghost use Rattle.std.specs.Prelude.{◌≡◌, ◌<◌, ◌≤◌, ◌↔◌, ◌+◌, ◌*◌, ◌/◌, ◌^◌, ◌++◌, [], List, ℕ, Err, IfOk, IsErrOf, IsOkUnless, OnErr, OnOk, length, min, take, true, vec_capacity};
-ghost use Rattle.rds_live.specs.{Moving.moved_state, Next.completed, Next.group_next, Next.items_next, Next.live_next, StreamDecoder.HasHeard, StreamDecoder.by_rules, StreamDecoder.complete, StreamDecoder.live_of, StreamDecoder.report_of};
+ghost use Rattle.std.specs.Prelude.{◌≡◌, ◌<◌, ◌≤◌, ◌↔◌, ◌+◌, ◌*◌, ◌/◌, ◌^◌, ◌++◌, [], List, ℕ, Err, IfOk, IsErrOf, IsOkUnless, OnErr, OnOk, length, min, take, vec_capacity};
+ghost use Rattle.rds_live.specs.{Moving.moved_state, Next.completed, Next.group_next, Next.items_next, Next.live_next, StreamDecoder.HasHeard, StreamDecoder.complete, StreamDecoder.live_of, StreamDecoder.report_of};
 ghost use Rattle.rds_stream.specs.Recording.{AreGaps, length_of};
 ghost use Rattle.rds_sync.specs.{Advance.group_item, Counting.plus, Ranges.IsInRange, Step.run, Totals.totals_of, declared.state.State.TheVariants.Searching};
 
+use rds_code::RdsError;
 use rds_live::{
     ResumeError, StreamCounter, StreamDecoder, StreamEnd, finish_part, gaps_of_part, laws, run_part,
 };
-use rds_stream::{Recording, StreamError};
+use rds_stream::Recording;
 use rds_sync::{Item, Rules, State, Totals};
-use std::alloc::{AllocError, Global};
+use std::alloc::Global;
 use std::thread::Threads;
 
-/// A decoder of a stream with gaps, which has heard nothing yet. The gaps are refused exactly if no recording may have them.
+/// A decoder of a stream, which has heard nothing yet. Its gaps are refused exactly if no recording may have them, and without gaps only
+/// memory can be refused.
 pub fn begun<'r>(
     alloc: Global,
     rules: &'r Rules,
     gaps: &'r [(u64, u64)],
-) -> Result<StreamDecoder<'r>, StreamError>
+) -> Result<StreamDecoder<'r>, RdsError>
     ensures live { IfOk result (λ live. live ≡ live_of (record { rules = rules.now; gaps = gaps.now }) []) }
-    ensures bad_gaps { IsErrOf result StreamError.BadGaps ↔ (AreGaps (2 ^ 36) gaps.now → ⊥) }
+    ensures bad_gaps { IsErrOf result RdsError.BadGaps ↔ (AreGaps (2 ^ 36) gaps.now → ⊥) }
+    ensures gapless { gaps.now ≡ [] → IsOkUnless result RdsError.OutOfMemory }
 {
+    if gaps.is_empty() {
+        return StreamDecoder::new(alloc, rules);
+    }
     StreamDecoder::with_gaps(alloc, rules, gaps)
 }
 
@@ -46,20 +52,12 @@ pub fn anew<'r>(
     )
 }
 
-/// A decoder of a stream without gaps, which has heard nothing yet. Only memory can be refused.
-pub fn begun_gapless<'r>(alloc: Global, rules: &'r Rules) -> Result<StreamDecoder<'r>, StreamError>
-    ensures live { IfOk result (λ live. live ≡ live_of (by_rules rules.now) []) }
-    ensures refused { IsOkUnless result StreamError.OutOfMemory }
-{
-    StreamDecoder::new(alloc, rules)
-}
-
 /// As many bytes are heard as there is room for, and their items are told. A chunk past 2^36 bits is refused, and was not heard.
 pub fn taken(
     live: &mut StreamDecoder<'_>,
     bytes: &[u8],
     items: &mut Vec<Item>,
-) -> Result<usize, StreamError>
+) -> Result<usize, RdsError>
     ensures heard { IfOk result (λ count. (before : List ℕ) → HasHeard live.old before
         → HasHeard live.new (before ++ take count bytes.now)) }
     ensures items { IfOk result (λ count. (before : List ℕ) → HasHeard live.old before
@@ -67,7 +65,7 @@ pub fn taken(
         ≡ complete live.old.terms before ++ items.new.items) }
     ensures count { IfOk result (λ count. count ≡ min (length bytes.now) (min 960 (vec_capacity items.old / 16))) }
     ensures refused { OnErr result ((live.new ≡ live.old) × (items.new ≡ items.old)) }
-    ensures too_long { IsErrOf result StreamError.TooLong ↔ (2 ^ 36 < live.old.place + 8 * length bytes.now) }
+    ensures too_long { IsErrOf result RdsError.TooLong ↔ (2 ^ 36 < live.old.place + 8 * length bytes.now) }
     ensures next { IfOk result (λ count. live.new ≡ live_next live.old (take count bytes.now)) }
     ensures completed { IfOk result (λ count. items.new.items ≡ completed live.old (take count bytes.now)) }
 {
@@ -79,7 +77,7 @@ pub fn take_rest(
     alloc: Global,
     live: StreamDecoder<'_>,
     rest: &[u8],
-) -> Result<(Vec<Item>, StreamEnd), StreamError>
+) -> Result<(Vec<Item>, StreamEnd), RdsError>
     ensures { IfOk result (λ r. (before : List ℕ) → HasHeard live.entry before
         → (complete live.entry.terms before ++ r.0.items ++ group_item r.1.group
         ≡ report_of live.entry.terms (before ++ rest.now))
@@ -100,7 +98,7 @@ pub fn in_two_chunks(
     live: &mut StreamDecoder<'_>,
     first: &[u8],
     second: &[u8],
-) -> Result<(Vec<Item>, Vec<Item>), StreamError>
+) -> Result<(Vec<Item>, Vec<Item>), RdsError>
     requires { IsInRange live.old.terms.rules }
     ensures { IfOk result (λ r. (live.new ≡ live_next live.old (first.now ++ second.now))
         × (r.0.items ++ r.1.items ≡ completed live.old (first.now ++ second.now))) }
@@ -126,7 +124,7 @@ pub fn ended_inside(
     last: &[u8],
     bits: u64,
     items: &mut Vec<Item>,
-) -> Result<StreamEnd, StreamError>
+) -> Result<StreamEnd, RdsError>
     requires held { bits ≤ 8 * length last.now }
     requires few { bits ≤ 7 }
     requires room { 14 ≤ vec_capacity items.old }
@@ -150,7 +148,7 @@ pub fn counted_in_two<R: Threads + Sync>(
     first: &[u8],
     second: &[u8],
     workers: u32,
-) -> Result<Totals, StreamError>
+) -> Result<Totals, RdsError>
     ensures { IfOk result (λ totals. totals ≡ totals_of (report_of
         (record { rules = rules.now; gaps = gaps.now }) (first.now ++ second.now))) }
 {
@@ -167,27 +165,25 @@ pub fn refused_chunk<R: Threads + Sync>(
     alloc: Global,
     counter: &mut StreamCounter<'_>,
     bytes: &[u8],
-) -> Result<(), StreamError>
+) -> Result<(), RdsError>
     requires { 2 ^ 36 < counter.old.place + 8 * length bytes.now }
-    ensures refused { result ≡ Err StreamError.TooLong }
+    ensures refused { result ≡ Err RdsError.TooLong }
     ensures same { counter.new ≡ counter.old }
 {
     counter.count(rt, alloc, bytes)
 }
 
-/// A part that begins with the stream is gone over as a recording of its own, from a search on.
-pub fn run_from_start(part: &Recording, rules: &Rules, items: &mut Vec<Item>) -> State
-    requires { 2 * length_of part.now ≤ vec_capacity items.old }
-    ensures items { items.new.items ≡ (run part.now rules.now Searching 0 (length_of part.now)).1 }
+/// A part that begins with the stream is gone over as a recording of its own, from a search on. After a search no group is in progress, and
+/// a stream without gaps has none in a part.
+pub fn run_from_start(alloc: Global, part: &Recording, rules: &Rules, list: &mut Vec<Item>) -> State
+    requires { 2 * length_of part.now ≤ vec_capacity list.old }
+    ensures items { list.new.items ≡ (run part.now rules.now Searching 0 (length_of part.now)).1 }
     ensures state { result ≡ moved_state 0 (run part.now rules.now Searching 0 (length_of part.now)).0 }
 {
-    run_part(part, 0, rules, State::Searching, 0, items)
-}
-
-/// After a search no group is in progress, and a stream without gaps has none in a part.
-pub fn search_ends(alloc: Global, part: &Recording, rules: &Rules) -> Result<bool, AllocError>
-    ensures { IfOk result (λ none. none ≡ true) }
-{
-    let gaps = gaps_of_part(alloc, &[], 0, part.len())?;
-    Ok(gaps.is_empty() && finish_part(part, 0, rules, State::Searching).is_none())
+    if let Ok(gaps) = gaps_of_part(alloc, &[], 0, part.len()) {
+        prove!(gaps.is_empty());
+    }
+    let is_none = finish_part(part, 0, rules, State::Searching).is_none();
+    prove!(is_none);
+    run_part(part, 0, rules, State::Searching, 0, list)
 }

@@ -1,20 +1,20 @@
 //! Tests that the maker of a receiver would write: encode groups, damage them, decode them. They come out as they were sent.
 ghost use Rattle.std.specs.Prelude.{◌≡◌, ◌≢◌, ◌↔◌, ℕ, ◌+◌, ◌-◌, ◌*◌, ◌<◌, ◌≤◌, ◌^◌, ◌∷◌, ◌++◌, [], Bool, Contains, IfOk, IfSome, IsOkUnless, IsTrue, List, Ok, OnOk, Some, flat_map, length, slice_index, true};
 ghost use Rattle.std.specs.Int.Count.{ones};
-ghost use Rattle.rds_code.specs.{declared.offset.Offset.Offset as AnOffset, declared.offset.Offset.TheVariants.A, declared.offset.Offset.TheVariants.D, Bursts.IsBurst, Detection.error_masks, Detection.miscorrections, Detection.remainders_near, Encoding.encoded, Offsets.number, Reading.information, Remainder.rem};
+ghost use Rattle.rds_code.specs.{declared.offset.Offset.Offset as AnOffset, declared.offset.Offset.TheVariants.A, declared.offset.Offset.TheVariants.D, Bursts.IsBurst, Detection.error_masks, Detection.miscorrections, Detection.remainders_near, Encoding.encoded, Offsets.number, Reading.information, Remainder.rem, declared.error.RdsError.TheVariants.OutOfMemory};
 ghost use Rattle.rds_stream.specs.Recording.{length_of, ungapped};
-ghost use Rattle.rds_sync.specs.{Groups.group as group_at, Lawful.IsLawful, Longer.AreNoLess, Longer.BeginsWith, Longer.OnlyAddsItems, Longer.beginning, Sent.AreHeard, Sent.AreWords, Sent.GroupIsHeard, Sent.IsCorrectable, Sent.SentGroup, Sent.bits_sent, Sent.bits_with_damage, Sent.items_damaged, Sent.packed_group, Sent.packed_groups as the_packed_groups, Sent.totals_sent, Step.lock_of, Step.run as run_of, declared.error.SyncError.TheVariants.OutOfMemory, declared.state.State.TheVariants.Locked};
-ghost use Rattle.rds_tool.specs.{Following.listed, Laws.groups_in, Laws.sent_listing, Laws.whole_input, declared.job.Input.Input as AnInput, declared.job.Settings.Settings as SomeSettings};
+ghost use Rattle.rds_sync.specs.{Groups.group as group_at, Lawful.IsLawful, Longer.AreNoLess, Longer.BeginsWith, Longer.OnlyAddsItems, Longer.beginning, Sent.AreHeard, Sent.AreWords, Sent.GroupIsHeard, Sent.IsCorrectable, Sent.SentGroup, Sent.bits_sent, Sent.bits_with_damage, Sent.items_damaged, Sent.packed_group, Sent.packed_groups as the_packed_groups, Sent.totals_sent, Step.lock_of, Step.run as run_of, declared.state.State.TheVariants.Locked};
+ghost use Rattle.rds_tool.specs.{Following.listed, Laws.groups_in, Laws.sent_listing, Laws.whole_input, declared.job.Settings.Settings as SomeSettings};
 ghost use Rattle.rds_uses.specs.{Jobs.IsListOfStream, Received.AreAllHeard, Received.AreBitsOf, Received.AreHeardBetween, Received.IsSoundUpTo, Received.four_words, Received.report_damaged, Received.report_sent, Received.totals_received};
 
 use crate::code::damaged;
 use crate::tool::written;
 use rds_code::{
-    BlockNumber, BurstLimit, BurstTable, Offset, Reading, Wanted, encode_block, encode_group,
-    is_block, laws as code_laws, offset_of, read_block, rem26,
+    BlockNumber, BurstLimit, BurstTable, Offset, RdsError, Reading, Wanted, encode_block,
+    encode_group, is_block, laws as code_laws, offset_of, read_block, rem26,
 };
 use rds_stream::Recording;
-use rds_sync::{Group, Item, Report, Rules, State, SyncError, decode_plain, laws, run};
+use rds_sync::{Group, Item, Report, Rules, State, decode_plain, laws, run};
 use rds_tool::{FromRead, Job, ToWrite, follow, laws as tool_laws};
 use std::alloc::{AllocError, Global};
 use std::thread::Threads;
@@ -51,35 +51,23 @@ pub fn shows_ten_bits(info: u16, offset: Offset, damage: u32) -> bool
 
 // ---- noise, and miscorrection
 
-/// One word of 26 bits has this information word and this remainder. So each remainder is that of one word in 1,024.
-pub fn has_one_word(info: u16, remainder: u16)
-    requires { remainder < 1024 }
-    ensures { (w : ℕ) × (w < 2 ^ 26) × (information w ≡ info) × (rem w ≡ remainder)
-        × ((v : ℕ) → information v ≡ info → rem v ≡ remainder → v ≡ w) }
-{
-    code_laws::corrected_words_are_few();
-}
-
-/// A window that is corrected to a block 1 has one of these remainders.
-pub fn corrected_near(table: &BurstTable, w: u32, limit: BurstLimit) -> bool
+/// A window that is corrected to a block 1 has one of some remainders. How many, of 1,024, is the same for each offset. One word of 26 bits
+/// has an information word and a remainder, so each remainder is that of one word in 1,024.
+pub fn corrected_near(table: &BurstTable, w: u32, limit: BurstLimit) -> (bool, usize)
     requires { w < 2 ^ 26 }
-    ensures { result ≡ true → Contains (remainders_near A limit) (rem w) }
+    ensures near { result.0 ≡ true → Contains (remainders_near A limit) (rem w) }
+    ensures count { (o : AnOffset) → length (remainders_near o limit) ≡ result.1 }
+    ensures word { (info remainder : ℕ) → info < 2 ^ 16 → remainder < 1024
+        → (w : ℕ) × (w < 2 ^ 26) × (information w ≡ info) × (rem w ≡ remainder)
+        × ((v : ℕ) → information v ≡ info → rem v ≡ remainder → v ≡ w) }
 {
     prove!(limit.bits() <= 5);
     code_laws::corrected_words_are_few();
-    matches!(
-        read_block(table, w, BlockNumber::ONE, Wanted::Either, limit),
-        Reading::Corrected { .. }
-    )
-}
-
-/// The number of such remainders, of 1,024, is the same for each offset.
-pub fn corrected_remainders(limit: BurstLimit) -> usize
-    ensures { (o : AnOffset) → length (remainders_near o limit) ≡ result }
-{
-    code_laws::corrected_words_are_few();
-    let remainders = [0, 26, 51, 99, 191, 367];
-    remainders[limit.bits() as usize]
+    let count = [0, 26, 51, 99, 191, 367][limit.bits() as usize];
+    match read_block(table, w, BlockNumber::ONE, Wanted::Either, limit) {
+        Reading::Corrected { .. } => (true, count),
+        _ => (false, count),
+    }
 }
 
 /// Whether this is an error mask of two bit errors.
@@ -185,7 +173,7 @@ pub fn heard_and_decoded(
     alloc: Global,
     recording: &Recording,
     rules: &Rules,
-) -> Result<Report, SyncError>
+) -> Result<Report, RdsError>
     ensures refused { IsOkUnless result OutOfMemory }
     ensures totals { IfOk result (λ report. (words : List ℕ) (groups : List (List ℕ))
         → length_of recording.now ≡ 104 * length (words ∷ groups)
@@ -238,7 +226,7 @@ pub fn decoded_in_lock(
     state: State,
     from: u64,
     to: u64,
-) -> Result<(State, Vec<Item>), SyncError>
+) -> Result<(State, Vec<Item>), RdsError>
     requires lawful { IsLawful rules.now from state }
     requires order { from ≤ to }
     requires within { to ≤ length_of recording.now }
@@ -354,22 +342,4 @@ fn follow_rows<R: Threads + Sync>(
         Ok(()) => Some(writer.into_inner()),
         Err(_) => None,
     }
-}
-
-/// A list of some bytes ends with their totals.
-pub fn listed_and_counted<R: Threads + Sync>(
-    rt: &R,
-    alloc: Global,
-    bytes: &[u8],
-    list: &Job,
-    totals: &Job,
-) -> Option<(Vec<u8>, Vec<u8>)>
-    requires { (input : AnInput) × (settings : SomeSettings)
-        × (list.now ≡ Job.List input settings) × (totals.now ≡ Job.Totals input settings) }
-    ensures { IfSome result (λ both. (rows : List ℕ) × (both.0.items ≡ rows ++ both.1.items)) }
-{
-    tool_laws::lists_end_with_totals();
-    let listing = written(rt, alloc, bytes, list)?;
-    let counts = written(rt, alloc, bytes, totals)?;
-    Some((listing, counts))
 }

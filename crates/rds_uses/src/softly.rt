@@ -1,17 +1,17 @@
 //! Facts about soft decisions that a user of `rds_soft` relies on: which block is nearest, how symbols are read, and what a
 //! report read again keeps.
-ghost use Rattle.std.specs.Prelude.{◌≡◌, ◌≢◌, ℕ, ◌+◌, ◌-◌, ◌*◌, ◌<◌, ◌≤◌, ◌^◌, ◌++◌, None, Some, IfOk, IfSome, slice_index, true, IsTrue, ◌∷◌, [], drop, length, take};
+ghost use Rattle.std.specs.Prelude.{◌≡◌, ◌≢◌, ℕ, ◌+◌, ◌-◌, ◌*◌, ◌<◌, ◌≤◌, ◌^◌, ◌++◌, None, Some, IfOk, IfSome, slice_index, IsTrue, ◌∷◌, [], drop, length, take, OnOk};
 ghost use Rattle.rds_code.specs.{declared.offset.Offset.Offset as AnOffset, Offsets.number as number_of, Offsets.word, Remainder.rem, Reading.IsValid, Reading.allows, Reading.information, declared.reading.Wanted.Wanted as WantedHard};
-ghost use Rattle.rds_soft.specs.{Nearest.Turns, Nearest.top, Nearest.weight, Symbols.hard_bit, Symbols.hard_bits, Symbols.hard_window, declared.soft_item.SoftBlock.TheVariants.Read as SoftRead, ReadAgain.block_again, ReadAgain.item_again, ReadAgain.reading_heard, ReadAgain.symbols_heard, ReadAgain.symbols_of, SoftStream.complete, SoftStream.report_of, SoftTotals.soft_totals_of};
+ghost use Rattle.rds_soft.specs.{Nearest.Turns, Nearest.top, Nearest.weight, Symbols.hard_bit, Symbols.hard_bits, Symbols.hard_window, Symbols.IsSoftReading, declared.soft_item.SoftBlock.TheVariants.Read as SoftRead, ReadAgain.block_again, ReadAgain.item_again, ReadAgain.reading_heard, ReadAgain.soft_reading, ReadAgain.symbols_heard, ReadAgain.symbols_of, SoftStream.complete, SoftStream.report_of, SoftTotals.soft_totals_of};
 ghost use Rattle.rds_stream.specs.Recording.{AreGaps, length_of, reading_at};
 ghost use Rattle.rds_sync.specs.declared.item.Block.TheVariants.{Read};
 
-use rds_code::{BlockNumber, BurstLimit, Offset, Wanted};
+use rds_code::{BlockNumber, BurstLimit, Offset, RdsError, Wanted};
 use rds_soft::{
     Correction, Margin, Search, SoftBlock, SoftItem, SoftReading, SoftStream, SoftTotals, laws,
     mask_of, pack_bits,
 };
-use rds_stream::{Recording, StreamError};
+use rds_stream::Recording;
 use rds_sync::{Item, Rules};
 use std::alloc::{AllocError, Global};
 
@@ -62,11 +62,11 @@ pub fn finds_what_was_sent(
 /// If each symbol weighs more than the top, only a window that is valid already is found, by no flips.
 pub fn nothing_is_flipped(
     search: &mut Search,
+    margin: Margin,
     w: u32,
-    confidences: &[u8; 27],
     number: BlockNumber,
     wanted: Wanted,
-    margin: Margin,
+    confidences: &[u8; 27],
 ) -> Option<Correction>
     requires window { w < 2 ^ 26 }
     requires sure { (k : ℕ) → k < 27 → top < slice_index confidences.now k }
@@ -78,7 +78,8 @@ pub fn nothing_is_flipped(
 
 // ---- readings
 
-/// Two searches read symbols alike, and those whose window is valid as it is.
+/// Two searches read symbols alike, and those whose window is valid as it is. The reading is the one that is computed. The information word
+/// of a corrected block is known.
 pub fn read_alike(
     one: &mut Search,
     other: &mut Search,
@@ -86,32 +87,25 @@ pub fn read_alike(
     number: BlockNumber,
     wanted: Wanted,
     margin: Margin,
-) -> (SoftReading, SoftReading)
+) -> (SoftReading, SoftReading, Option<u16>)
     ensures alike { result.0 ≡ result.1 }
     ensures valid { (o : AnOffset) → IsValid (hard_window symbols.now) number o
         → result.0 ≡ SoftReading.Valid o (information (hard_window symbols.now)) }
+    ensures computed { IsSoftReading symbols.now number wanted margin (soft_reading symbols.now number wanted margin) }
+    ensures word { (o : AnOffset) (info flips : ℕ) → result.0 ≡ SoftReading.Corrected o info flips → result.2 ≡ Some info }
 {
     laws::symbols_are_read_alike();
-    let _some = margin.weight();
+    laws::symbols_are_read_so();
+    prove!(number.get() <= 4 && margin.weight() <= 127);
     let first = one.read(symbols, number, wanted, margin);
-    (first, other.read(symbols, number, wanted, margin))
+    let second = other.read(symbols, number, wanted, margin);
+    (first, second, SoftBlock::Read(first).info())
 }
 
 // ---- reports read again
 
-/// The windows of a recording of symbols' bits are those of 27 symbols.
-pub fn window_of_symbols(recording: &Recording, symbols: &[i8], first: u64) -> u32
-    requires bits { recording.now.bits ≡ hard_bits symbols.now }
-    requires within { first + 26 < length symbols.now }
-    requires short { first + 25 < length_of recording.now }
-    ensures { result ≡ hard_window (take 27 (drop first symbols.now)) }
-{
-    laws::blocks_are_read_from_symbols();
-    let _bits = recording.len();
-    recording.window(first + 25)
-}
-
-/// A block that such a recording reads is read again as its symbols are, also if its bits make it valid.
+/// The windows of a recording of symbols' bits are those of 27 symbols. A block that it reads is read again as its symbols are, also if its
+/// bits make it valid.
 pub fn read_from_symbols(
     recording: &Recording,
     symbols: &[i8],
@@ -120,38 +114,30 @@ pub fn read_from_symbols(
     limit: BurstLimit,
     wanted: Wanted,
     margin: Margin,
-)
+) -> u32
     ghost hard: { WantedHard }
     requires bits { recording.now.bits ≡ hard_bits symbols.now }
     requires within { first + 26 < length symbols.now }
-    ensures { block_again (symbols_heard recording.now symbols.now first) number wanted margin
+    requires short { first + 25 < length_of recording.now }
+    ensures window { result ≡ hard_window (take 27 (drop first symbols.now)) }
+    ensures again { block_again (symbols_heard recording.now symbols.now first) number wanted margin
         (Read (reading_at recording.now (first + 25) number hard limit))
         ≡ SoftRead (reading_heard (symbols_heard recording.now symbols.now first) number wanted margin) }
 {
     laws::blocks_are_read_from_symbols();
     let _number = number.get();
     let _limit = limit.bits();
-}
-
-/// The information word of a corrected block is known.
-pub fn word_of_corrected(offset: Offset, info: u16, flips: u32) -> Option<u16>
-    ensures { result ≡ Some info }
-{
-    SoftBlock::Read(SoftReading::Corrected {
-        offset,
-        info,
-        flips,
-    })
-    .info()
+    let _bits = recording.len();
+    recording.window(first + 25)
 }
 
 /// The item read again is the one that `item_again` computes.
 pub fn again_as_computed(
-    search: &mut Search,
+    item: &Item,
     recording: &Recording,
     symbols: &[u8],
     margin: Margin,
-    item: &Item,
+    search: &mut Search,
 ) -> SoftItem
     ensures { result ≡ item_again recording.now (symbols_of symbols.now) margin item.now }
 {
@@ -179,15 +165,17 @@ pub fn totals_of_two(one: &SoftItem, other: &SoftItem) -> SoftTotals
 
 // ---- a stream
 
-/// Items of two reads, one after the other, are those that both complete. What comes later changes none of them.
+/// Items of two reads, one after the other, are those that both complete. What comes later changes none of them. More symbols than a stream
+/// may have are not heard.
 pub fn of_two_reads(
-    alloc: Global,
     stream: &mut SoftStream<'_>,
+    alloc: Global,
     first: &[u8],
     second: &[u8],
-) -> Result<(Vec<SoftItem>, Vec<SoftItem>), StreamError>
-    ensures { IfOk result (λ items. complete stream.old.terms (stream.old.symbols ++ first.now ++ second.now)
+) -> Result<(Vec<SoftItem>, Vec<SoftItem>), RdsError>
+    ensures items { IfOk result (λ items. complete stream.old.terms (stream.old.symbols ++ first.now ++ second.now)
         ≡ complete stream.old.terms stream.old.symbols ++ items.0.items ++ items.1.items) }
+    ensures too_many { 2 ^ 36 + 1 < length stream.old.symbols + length first.now → OnOk result ⊥ × (stream.new ≡ stream.old) }
 {
     let one = stream.take(alloc, first)?;
     let other = stream.take(alloc, second)?;
@@ -201,7 +189,7 @@ pub fn totals_of_stream(
     gaps: &[(u64, u64)],
     margin: Margin,
     symbols: &[u8],
-) -> Result<Option<SoftTotals>, StreamError>
+) -> Result<Option<SoftTotals>, RdsError>
     ensures totals { IfOk result (λ totals. IfSome totals (λ totals. totals
         ≡ soft_totals_of (report_of (record { rules = rules.now; gaps = gaps.now; margin = margin }) symbols.now))) }
     ensures none { IfOk result (λ totals. totals ≡ None → AreGaps (length symbols.now - 1) gaps.now → ⊥) }
@@ -213,13 +201,4 @@ pub fn totals_of_stream(
     }
     let end = stream.finish(alloc)?;
     Ok(Some(end.totals))
-}
-
-/// More symbols than a stream may have are not heard.
-pub fn too_many_symbols(alloc: Global, stream: &mut SoftStream<'_>, symbols: &[u8]) -> bool
-    requires { 2 ^ 36 + 1 < length stream.old.symbols + length symbols.now }
-    ensures told { result ≡ true }
-    ensures still { stream.new ≡ stream.old }
-{
-    stream.take(alloc, symbols).is_err()
 }

@@ -1,36 +1,25 @@
 //! Facts that a user of `rds_stream` relies on: bits from bytes, gaps, windows, scans, planes and tapes.
-ghost use Rattle.std.specs.Prelude.{◌≡◌, ℕ, ◌+◌, ◌-◌, ◌*◌, ◌<◌, ◌≤◌, ◌^◌, IfOk, IfSome, IsOkUnless, None, Ok, Some, Err, if◌then◌else◌, slice_index, true, vec_len, [], false};
+ghost use Rattle.std.specs.Prelude.{◌≡◌, ℕ, ◌+◌, ◌-◌, ◌*◌, ◌<◌, ◌≤◌, ◌^◌, IfOk, IfSome, IsOkUnless, None, Ok, Some, Err, if◌then◌else◌, slice_index, true, vec_len, false};
 ghost use Rattle.std.specs.Int.{bit_at};
-ghost use Rattle.rds_code.specs.{Remainder.rem, Reading.reading, declared.reading.Reading.TheVariants.Lost};
-ghost use Rattle.rds_stream.specs.{Recording.bits_of, Recording.heard, Recording.length_of, Recording.offset_at, Recording.ungapped, Recording.valid_windows, Recording.window, Recording.AreGaps, Recording.touched, ValidWindows.NoneValid, declared.error.StreamError.TheVariants.BitsPastBytes, declared.error.StreamError.TheVariants.OutOfMemory, declared.error.StreamError.TheVariants.TooLong, declared.error.StreamError.TheVariants.BadGaps};
-ghost use Rattle.rds_sync.specs.{Advance.items_in, declared.state.State.TheVariants.Searching};
+ghost use Rattle.rds_code.specs.{Remainder.rem, Reading.reading, declared.reading.Reading.TheVariants.Lost, declared.error.RdsError.TheVariants.BitsPastBytes, declared.error.RdsError.TheVariants.OutOfMemory, declared.error.RdsError.TheVariants.TooLong, declared.error.RdsError.TheVariants.BadGaps};
+ghost use Rattle.rds_stream.specs.{Recording.bits_of, Recording.heard, Recording.length_of, Recording.offset_at, Recording.ungapped, Recording.valid_windows, Recording.window, Recording.AreGaps, Recording.touched, ValidWindows.NoneValid};
 
-use rds_code::{BlockNumber, BurstLimit, BurstTable, Offset, Reading, Wanted, rem26};
+use rds_code::{BlockNumber, BurstLimit, BurstTable, Offset, RdsError, Reading, Wanted, rem26};
 use rds_stream::{
-    Counted, Reader, Recording, StreamError, Tape, ValidWindows, offset_heard, planes, read_heard,
-    scan,
+    Counted, Reader, Recording, Tape, ValidWindows, offset_heard, planes, read_heard, scan,
 };
-use rds_sync::{Rules, State, Step, advance};
 use std::alloc::Global;
 use std::snapshot::Snapshot;
 
 // ---- recordings
 
 /// The first `bits` bits of the bytes. Too many for a recording, and then too many for the bytes, are refused. The bytes come back.
-pub fn recording_from(bytes: Vec<u8>, bits: u64) -> Result<Recording, (StreamError, Vec<u8>)>
+pub fn recording_from(bytes: Vec<u8>, bits: u64) -> Result<Recording, (RdsError, Vec<u8>)>
     ensures taken { bits ≤ 2 ^ 36 → bits ≤ 8 * vec_len bytes → result ≡ Ok (ungapped (bits_of bytes.items bits)) }
     ensures too_long { 2 ^ 36 < bits → result ≡ Err (TooLong, bytes) }
     ensures past { bits ≤ 2 ^ 36 → 8 * vec_len bytes < bits → result ≡ Err (BitsPastBytes, bytes) }
 {
     Recording::from_bytes(bytes, bits)
-}
-
-/// The last bit, whether it is a one or a zero.
-pub fn last_bit(recording: &Recording) -> bool
-    requires { 0 < length_of recording.now }
-    ensures { slice_index recording.now.bits (length_of recording.now - 1) ≡ (if result then 1 else 0) }
-{
-    recording.bit(recording.len() - 1)
 }
 
 /// Four blocks in a row are heard as each of them is by itself, in whichever order.
@@ -42,66 +31,58 @@ pub fn heard_in_a_row(reader: &mut Reader<'_>, place: u64) -> bool
 {
     let _len = reader.recording().len();
     let [one, two, three, four] = reader.four_windows(place);
-    hears(reader, place + 78, four)
-        && hears(reader, place + 52, three)
-        && hears(reader, place + 26, two)
-        && hears(reader, place, one)
-}
-
-/// Whether the reader hears this block at a place.
-fn hears(reader: &mut Reader<'_>, place: u64, told: Option<u32>) -> bool
-    requires first { 25 ≤ place }
-    requires last { place < length_of reader.old }
-    requires told { told ≡ heard reader.old place }
-    requires block { IfSome told (λ window. window < 2 ^ 26) }
-    ensures result { result ≡ true }
-    ensures same { reader.new ≡ reader.old }
-{
-    told == reader.window(place)
+    reader.window(place + 78) == four
+        && reader.window(place + 52) == three
+        && reader.window(place + 26) == two
+        && reader.window(place) == one
 }
 
 // ---- many places
 
 /// All valid windows of a recording, by rising place. Only memory can be refused.
-pub fn all_valid(alloc: Global, recording: &Recording) -> Result<Vec<(u64, Offset)>, StreamError>
+pub fn all_valid(alloc: Global, recording: &Recording) -> Result<Vec<(u64, Offset)>, RdsError>
     ensures found { IfOk result (λ found. found.items ≡ valid_windows recording.now 0 (length_of recording.now)) }
     ensures refused { IsOkUnless result OutOfMemory }
 {
     scan(alloc, recording, 0, recording.len())
 }
 
-/// The first valid window of a recording, with its offset, if there is one.
-pub fn first_valid(recording: &Recording) -> Option<(u64, Offset)>
-    ensures some { IfSome result (λ found. offset_at recording.now found.0 ≡ Some found.1) }
-    ensures first { IfSome result (λ found. NoneValid recording.now 0 found.0) }
-    ensures none { result ≡ None → NoneValid recording.now 0 (length_of recording.now) }
-{
-    ValidWindows::new(recording, 0, recording.len()).next()
-}
-
-/// How far the second valid window is after the first: they come by rising place, within the recording.
-pub fn distance_of_first_two(recording: &Recording) -> Option<u64>
-    ensures after { IfSome result (λ distance. 0 < distance) }
-    ensures within { IfSome result (λ distance. distance < length_of recording.now) }
+/// The first valid window of a recording, with its offset, if there is one, and how far the second is after it: they come by rising place,
+/// within the recording.
+pub fn first_two(recording: &Recording) -> (Option<(u64, Offset)>, Option<u64>)
+    ensures some { IfSome result.0 (λ found. offset_at recording.now found.0 ≡ Some found.1) }
+    ensures first { IfSome result.0 (λ found. NoneValid recording.now 0 found.0) }
+    ensures none { result.0 ≡ None → NoneValid recording.now 0 (length_of recording.now) }
+    ensures distance { IfSome result.1 (λ distance. (0 < distance) × (distance < length_of recording.now)) }
 {
     let mut windows = ValidWindows::new(recording, 0, recording.len());
-    let (first, _offset) = windows.next()?;
-    let (second, _offset) = windows.next()?;
-    Some(second - first)
+    match windows.next() {
+        None => (None, None),
+        Some(one) => match windows.next() {
+            None => (Some(one), None),
+            Some(other) => (Some(one), Some(other.0 - one.0)),
+        },
+    }
 }
 
-/// At bit 63 the planes hold the remainder of the window 63 places on.
-pub fn last_of_planes(recording: &Recording, at: u64) -> [u64; 10]
+/// The window 63 places on: its remainder, as it is stored and at bit 63 of the planes, and its last bit.
+pub fn last_of_planes(recording: &Recording, at: u64) -> ([u64; 10], u16, bool)
     requires first { 25 ≤ at }
     requires last { at + 64 ≤ length_of recording.now }
-    ensures { (r : ℕ) → r < 10 → bit_at (slice_index result r) 63 ≡ bit_at (rem (window recording.now.bits (at + 63))) r }
+    ensures stored { result.1 ≡ rem (window recording.now.bits (at + 63)) }
+    ensures planes { (r : ℕ) → r < 10 → bit_at (slice_index result.0 r) 63 ≡ bit_at result.1 r }
+    ensures bit { slice_index recording.now.bits (at + 63) ≡ (if result.2 then 1 else 0) }
 {
-    planes(recording, at)
+    let _len = recording.len();
+    let last = at + 63;
+    let remainder = rem26(recording.window(last));
+    (planes(recording, at), remainder, recording.bit(last))
 }
 
 // ---- tapes
 
 /// The offset of a tape's last place, twice its length, and its recording. At most one window is counted.
+#[tactic(auto, using(std::proofs::lemmas::Grind::common_steps, rds_stream::proofs::WindowLists::off_late))]
 pub fn last_offset<T: Tape>(tape: &mut T) -> (Option<Offset>, u64, Snapshot<Recording>)
     requires some { 26 ≤ length_of (T.signal tape.old) }
     requires room { T.reads_made tape.old < 2 ^ 63 }
@@ -118,7 +99,7 @@ pub fn last_offset<T: Tape>(tape: &mut T) -> (Option<Offset>, u64, Snapshot<Reco
 // ---- which gaps are taken
 
 /// The answer if gaps are refused: why, the bytes and the gaps.
-type Refused = (StreamError, Vec<u8>, Vec<(u64, u64)>);
+type Refused = (RdsError, Vec<u8>, Vec<(u64, u64)>);
 
 /// The same with gaps, which are refused last, unless they are in order and among the bits.
 pub fn with_gaps(bytes: Vec<u8>, bits: u64, gaps: Vec<(u64, u64)>) -> Result<Recording, Refused>
@@ -133,17 +114,9 @@ pub fn with_gaps(bytes: Vec<u8>, bits: u64, gaps: Vec<(u64, u64)>) -> Result<Rec
 
 // ---- reading where a gap is touched, and where none is
 
-/// A window as it is stored is a block, whose remainder can be taken.
-pub fn stored_remainder(recording: &Recording, place: u64) -> u16
-    requires first { 25 ≤ place }
-    requires last { place < length_of recording.now }
-    ensures { result ≡ rem (window recording.now.bits place) }
-{
-    rem26(recording.window(place))
-}
-
 /// The block of a window that touches a gap is lost, whatever its bits are, and has no offset. Any other window is heard as it is stored. A
 /// window is counted either way.
+#[tactic(auto, using(std::proofs::lemmas::Grind::common_steps, rds_stream::proofs::WindowLists::off_late, rds_stream::proofs::WindowLists::heard_clear, rds_stream::proofs::WindowLists::heard_touched))]
 pub fn block_with_gaps(
     table: &BurstTable,
     recording: &Recording,
@@ -164,17 +137,4 @@ pub fn block_with_gaps(
     prove!(tape.reads() == 1);
     let read = read_heard(table, heard, number, wanted, BurstLimit::LONGEST);
     (recording.touches(place), heard, read, offset_heard(heard))
-}
-
-// ---- synchronisers and gaps
-
-/// A place whose window touches a gap does not acquire: the search goes on, and gives nothing.
-pub fn nothing_acquired_in_gap<T: Tape>(tape: &mut T, rules: &Rules, place: u64, to: u64) -> Step
-    requires before { place < to }
-    requires within { to ≤ length_of (T.signal tape.old) }
-    requires counted { T.reads_made tape.old + 16 ≤ 2 ^ 63 }
-    requires touched { touched (T.signal tape.old) place ≡ true }
-    ensures { (result.state ≡ Searching) × (items_in result.items ≡ []) }
-{
-    advance(tape, rules, State::Searching, place, to)
 }

@@ -1,22 +1,24 @@
 //! Facts that a user of `rds_sync` relies on: rules, lawful states, steps over a tape, runs over a range and their items, and reports.
 ghost use Rattle.std.specs.Prelude.{◌≡◌, ◌≢◌, ℕ, ◌+◌, ◌-◌, ◌*◌, ◌<◌, ◌≤◌, ◌^◌, ◌++◌, ◌∷◌, ◌↔◌, [], IsTrue, IfOk, IsOkUnless, None, Some, true, Bool, if◌then◌else◌};
 ghost use Rattle.std.specs.Int.{bit_at};
-ghost use Rattle.rds_stream.specs.Recording.{length_of};
-ghost use Rattle.rds_sync.specs.{declared.item.Block.Block as ABlock, declared.error.SyncError.TheVariants.BurstRange, declared.error.SyncError.TheVariants.LossRange, declared.error.SyncError.TheVariants.OutOfMemory, declared.error.SyncError.TheVariants.ReachRange, declared.error.SyncError.TheVariants.ShareRange, declared.state.State.State as AState, declared.state.State.TheVariants.Searching, Advance.group_item, Advance.items_in, Counting.IsAtMost, Convergence.IsSound, Convergence.sound_bits, Decoding.listed, GroupLaws.IsBlock, Groups.group as group_at, Groups.info_of, Lawful.IsBetweenGroups, Lawful.IsLawful, Loss.IsLawfulBad, Loss.bad_at, Loss.loses, Report.report_items, Step.items_at, Step.items_of_end, Step.run as run_of, Step.step, Totals.totals_of, declared.loss.Loss.TheVariants.Share, Ranges.IsLossInRange};
+ghost use Rattle.rds_stream.specs.Recording.{length_of, touched};
+ghost use Rattle.rds_sync.specs.{declared.item.Block.Block as ABlock, declared.state.State.State as AState, declared.state.State.TheVariants.Searching, Advance.group_item, Advance.items_in, Counting.IsAtMost, Convergence.IsSound, Convergence.sound_bits, Decoding.listed, GroupLaws.IsBlock, Groups.group as group_at, Groups.info_of, Lawful.IsBetweenGroups, Lawful.IsLawful, Loss.IsLawfulBad, Loss.bad_at, Loss.loses, Report.report_items, Step.items_at, Step.items_of_end, Step.run as run_of, Step.step, Totals.totals_of, declared.loss.Loss.TheVariants.Share, Ranges.IsLossInRange};
+ghost use Rattle.rds_code.specs.declared.error.RdsError.TheVariants.{BurstRange, LossRange, OutOfMemory, ReachRange, ShareRange};
 
+use rds_code::RdsError;
 use rds_stream::{Counted, Reader, Recording, Tape};
 use rds_sync::{
-    Bad, Decoder, Group, Item, Lock, Loss, Report, Rules, Spans, State, Step, SyncError, Tally,
-    advance, finish, laws, run, run_report, stretch,
+    Bad, Decoder, Group, Item, Lock, Loss, Report, Rules, Spans, State, Step, Tally, advance,
+    finish, laws, run, run_report, stretch,
 };
-use std::alloc::{AllocError, Global};
+use std::alloc::Global;
 use std::snapshot::Snapshot;
 
 // ---- rules
 
 /// Rules are made again of the numbers that they were made of, together and one after the other. Each fits in a byte, and only memory can be
 /// refused.
-pub fn rules_in_bytes(alloc: Global, rules: &Rules) -> Result<Rules, SyncError>
+pub fn rules_in_bytes(alloc: Global, rules: &Rules) -> Result<Rules, RdsError>
     ensures rules { IfOk result (λ made. made ≡ rules.now) }
     ensures refused { IsOkUnless result OutOfMemory }
 {
@@ -35,7 +37,7 @@ pub fn rules_in_bytes(alloc: Global, rules: &Rules) -> Result<Rules, SyncError>
 }
 
 /// Of several wrong numbers the first is refused.
-pub fn refused_in_order(alloc: Global, reach: u32, loss: u32, of: u32) -> [Option<SyncError>; 4]
+pub fn refused_in_order(alloc: Global, reach: u32, loss: u32, of: u32) -> [Option<RdsError>; 4]
     ensures { result ≡ Some BurstRange ∷ Some ReachRange ∷ Some LossRange ∷ Some ShareRange ∷ [] }
 {
     [
@@ -67,7 +69,7 @@ pub fn tested_run(
     recording: &Recording,
     rules: &Rules,
     state: State,
-) -> Result<(bool, u64), SyncError>
+) -> Result<(bool, u64), RdsError>
     ensures lawful { IfOk result (λ told. told.0 ≡ true) }
     ensures left { IfOk result (λ told. told.1 ≤ 2 * length_of recording.now) }
     ensures refused { IsOkUnless result OutOfMemory }
@@ -81,22 +83,28 @@ pub fn tested_run(
     Ok((end.is_lawful(rules, len), 2 * len - items.len() as u64))
 }
 
-/// After a bit from a lawful state there is a lawful state. If it is another one, with no group in progress, the bit gives an item.
-pub fn lawful_after_bit(recording: &Recording, rules: &Rules, state: State, place: u64)
-    requires { IsLawful rules.now place state }
+/// A run over one bit from a lawful state is that bit, and ends in a lawful state. If it is another one, with no group in progress, the bit
+/// gives an item.
+pub fn lawful_after_bit(recording: &Recording, rules: &Rules, state: State, place: u64) -> State
+    requires lawful { IsLawful rules.now place state }
+    requires within { place < length_of recording.now }
+    ensures step { result ≡ step recording.now rules.now place state }
     ensures lawful { IsLawful rules.now (place + 1) (step recording.now rules.now place state) }
     ensures item { step recording.now rules.now place state ≢ state
         → IsBetweenGroups (step recording.now rules.now place state)
         → items_at recording.now rules.now place state ≢ [] }
 {
-    let _loss = rules.loss();
+    let (_loss, _len) = (rules.loss(), recording.len());
     laws::steps_are_lawful();
     laws::items_mark_changes();
+    laws::one_bit_runs();
+    Decoder::new(recording, rules, state, place, place + 1).end_state()
 }
 
 // ---- steps over a tape
 
-/// A step is the run over its bits. A search goes bit by bit, and reads its own window and one for each block of its reach at most.
+/// A step is the run over its bits. A search goes bit by bit, and reads its own window and one for each block of its reach at most. It goes
+/// on, and gives nothing, at a place whose window touches a gap.
 pub fn one_step<T: Tape>(tape: &mut T, rules: &Rules, state: State, place: u64, to: u64) -> Step
     requires lawful { IsLawful rules.now place state }
     requires before { place < to }
@@ -107,6 +115,8 @@ pub fn one_step<T: Tape>(tape: &mut T, rules: &Rules, state: State, place: u64, 
     ensures items { items_in result.items ≡ (run_of (T.signal tape.old) rules.now state place (result.place - place)).1 }
     ensures lawful { IsLawful rules.now result.place result.state }
     ensures bit { state ≡ Searching → result.place ≡ place + 1 }
+    ensures gap { state ≡ Searching → touched (T.signal tape.old) place ≡ true
+        → (result.state ≡ Searching) × (items_in result.items ≡ []) }
     ensures reads { state ≡ Searching → T.reads_made tape.new ≤ T.reads_made tape.old + (rules.now.reach + 1) }
     ensures same { T.signal tape.new ≡ T.signal tape.old }
 {
@@ -126,49 +136,35 @@ pub fn cost_of_end<T: Tape>(tape: &mut T, rules: &Rules, state: State) -> Option
 
 // ---- runs over a range
 
-/// A stretch is the run over its bits, and goes at least as far as a step. Its reader can go on.
+/// A stretch is the run over its bits, and goes at least as far as a step. Its reader can go on. A hop of a tally that ends where it does
+/// ends in its state.
 pub fn one_stretch(
+    alloc: Global,
     reader: &mut Reader<'_>,
     rules: &Rules,
     state: State,
     place: u64,
     to: u64,
-) -> (Step, bool)
+) -> (Step, bool, bool)
     requires lawful { IsLawful rules.now place state }
     requires before { place < to }
     requires within { to ≤ length_of reader.old }
     ensures moved { (place < result.0.place) × (result.0.place ≤ to) }
     ensures items { items_in result.0.items ≡ (run_of reader.old rules.now state place (result.0.place - place)).1 }
     ensures no_further { result.1 ≡ true }
+    ensures hop { result.2 ≡ true }
     ensures same { reader.new ≡ reader.old }
 {
     laws::steps_agree();
-    let mut tape = Counted::new(reader.recording());
-    let step = advance(&mut tape, rules, state, place, to);
-    let far = stretch(reader, rules, state, place, to);
-    let is_no_further = step.place <= far.place;
-    (far, is_no_further)
-}
-
-/// A hop of a tally that ends where a stretch does ends in the state of the stretch.
-pub fn hop_as_stretch(
-    alloc: Global,
-    recording: &Recording,
-    rules: &Rules,
-    state: State,
-    place: u64,
-) -> Result<bool, AllocError>
-    requires lawful { IsLawful rules.now place state }
-    requires before { place < length_of recording.now }
-    ensures { IfOk result (λ same. same ≡ true) }
-{
-    laws::steps_agree();
-    let to = recording.len();
+    let recording = reader.recording();
+    let _len = recording.len();
+    let step = advance(&mut Counted::new(recording), rules, state, place, to);
     let source = Snapshot::of(recording);
     let mut tally = Tally::new(alloc, source, rules, state, place, Spans::Whole);
-    tally.hop(&mut Counted::new(recording), rules, to, to)?;
-    let far = stretch(&mut Reader::new(recording), rules, state, place, to);
-    Ok(tally.place() != far.place || tally.state() == far.state)
+    let hopped = tally.hop(&mut Counted::new(recording), rules, to, to);
+    let far = stretch(reader, rules, state, place, to);
+    let is_same = tally.place() != far.place || tally.state() == far.state;
+    (far, step.place <= far.place, hopped.is_err() || is_same)
 }
 
 /// The items of the run over a recording in two parts, with the group at its end, are the report's.
@@ -193,75 +189,57 @@ pub fn decoded_in_two<'a>(
     (first, second, group)
 }
 
-/// Runs that once are in one state stay so.
-pub fn merged_ends(recording: &Recording, rules: &Rules, from: u64, middle: u64, to: u64)
+/// Runs that once are in one state stay so. Over a sound range those from all lawful states come into one, at a place within it.
+pub fn has_one_end(recording: &Recording, rules: &Rules, from: u64, middle: u64, to: u64)
     requires before { from ≤ middle }
     requires after { middle ≤ to }
-    ensures { (s t : AState) → (run_of recording.now rules.now s from (middle - from)).0
+    ensures merged { (s t : AState) → (run_of recording.now rules.now s from (middle - from)).0
         ≡ (run_of recording.now rules.now t from (middle - from)).0
         → (run_of recording.now rules.now s from (to - from)).0
         ≡ (run_of recording.now rules.now t from (to - from)).0 }
-{
-    laws::runs_merge();
-}
-
-/// Over a sound range the runs from all lawful states come into one state, at a place within it.
-pub fn has_one_end(recording: &Recording, rules: &Rules, from: u64)
-    ensures { (j p c : ℕ) → IsSound recording.now rules.now j from p c
+    ensures sound { (j p c : ℕ) → IsSound recording.now rules.now j from p c
         → (to : ℕ) × (to ≤ from + sound_bits rules.now.loss j)
         × ((s t : AState) → IsLawful rules.now from s → IsLawful rules.now from t
         → (run_of recording.now rules.now s from (to - from)).0
         ≡ (run_of recording.now rules.now t from (to - from)).0) }
 {
+    laws::runs_merge();
     laws::runs_converge();
     let _numbers = rules.numbers();
 }
 
-/// A run over one bit is that bit.
-pub fn run_of_one_bit(recording: &Recording, rules: &Rules, place: u64) -> State
-    requires { place < length_of recording.now }
-    ensures { result ≡ step recording.now rules.now place Searching }
-{
-    let _len = recording.len();
-    laws::one_bit_runs();
-    Decoder::new(recording, rules, State::Searching, place, place + 1).end_state()
-}
-
-/// Up to the block that is due a lock gives nothing.
-pub fn nothing_while_waiting(
-    recording: &Recording,
-    rules: &Rules,
+/// Up to the block that is due a lock gives nothing. Neither does a recording in its first 51 places.
+pub fn nothing_while_waiting<'a>(
+    recording: &'a Recording,
+    rules: &'a Rules,
     bad: u64,
     from: u64,
     due: u64,
-) -> Option<Item>
+) -> (Option<Item>, Decoder<'a>)
     requires bad { IsLawfulBad rules.now.loss bad }
     requires order { from ≤ due }
     requires soon { due ≤ from + 25 }
     requires whole { 77 ≤ due }
     requires within { due < length_of recording.now }
-    ensures { result ≡ None }
+    ensures none { result.0 ≡ None }
+    ensures state { result.1.end ≡ Searching }
+    ensures items { result.1.items ≡ [] }
 {
-    let _loss = rules.loss();
+    let (_loss, _len) = (rules.loss(), recording.len());
     laws::locks_wait();
+    laws::acquisitions_are_late();
+    laws::searches_go_on();
     let lock = Lock {
         due,
         number: 1,
         bad,
         first: 1,
     };
-    Decoder::new(recording, rules, State::Locked(lock), from, due).next()
-}
-
-/// In its first 51 places a recording gives nothing.
-pub fn nothing_at_first<'a>(recording: &'a Recording, rules: &'a Rules) -> Decoder<'a>
-    requires { 51 ≤ length_of recording.now }
-    ensures state { result.end ≡ Searching }
-    ensures items { result.items ≡ [] }
-{
-    laws::acquisitions_are_late();
-    laws::searches_go_on();
-    Decoder::new(recording, rules, State::Searching, 0, 51)
+    let none = Decoder::new(recording, rules, State::Locked(lock), from, due).next();
+    (
+        none,
+        Decoder::new(recording, rules, State::Searching, 0, 51),
+    )
 }
 
 /// The items of a run from a lawful state, their totals, and the state that it ends in.
@@ -272,7 +250,7 @@ pub fn report_of_run(
     state: State,
     from: u64,
     to: u64,
-) -> Result<(State, Report), SyncError>
+) -> Result<(State, Report), RdsError>
     requires lawful { IsLawful rules.now from state }
     requires order { from ≤ to }
     requires within { to ≤ length_of recording.now }

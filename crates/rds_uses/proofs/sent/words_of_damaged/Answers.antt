@@ -1,5 +1,6 @@
 use Rattle.rds_uses.proofs.Names.{A, B, D, GroupIsHeard, List, Signal, Some, [], ap, arith, bits_with_damage, flat_map, four_words, get_or, info_of, slice_index, subst, sym, ungapped, ℕ, ◌++◌, ◌∙◌, ◌∷◌, ◌≡◌}
-use Rattle.rds_uses.proofs.{SentAndHeard.word-sent, sent.words_of_damaged.Goals.After-info-4}
+use Rattle.rds_sync.proofs.SentRuns.{info_is}
+use Rattle.rds_uses.proofs.sent.words_of_damaged.Goals.{After-info-4}
 use Rattle.rds_code.specs.Encoding.{third_offset}
 use Rattle.rds_sync.specs.declared.item.{Block.Block, Group.Group}
 use Rattle.rds_uses.proofs.sent.words_of_damaged.Goals as goal
@@ -11,11 +12,11 @@ words-read c words damages heard =
     (omega (arith, c.burst.ensures.range.burst)) heard in
     let blocks = ap (λ (g : Group). g.blocks) (c.requires ∙ read) in
     let read_at = λ (k : ℕ) (other : Block). ap (λ (all : List Block). info_of (get_or all k other)) blocks in
-    let one : c.info.result ≡ Some (slice_index words 0) = c.info.ensures ∙ read_at 0 c.index-group-0.result ∙ word-sent A (slice_index words 0) (slice_index damages 0) in
-    let two : c.info-2.result ≡ Some (slice_index words 1) = c.info-2.ensures ∙ read_at 1 c.index-group-1.result ∙ word-sent B (slice_index words 1) (slice_index damages 1) in
+    let one : c.info.result ≡ Some (slice_index words 0) = c.info.ensures ∙ read_at 0 c.index-group-0.result ∙ info_is A (slice_index words 0) (slice_index damages 0) in
+    let two : c.info-2.result ≡ Some (slice_index words 1) = c.info-2.ensures ∙ read_at 1 c.index-group-1.result ∙ info_is B (slice_index words 1) (slice_index damages 1) in
     let three : c.info-3.result ≡ Some (slice_index words 2) =
-    c.info-3.ensures ∙ read_at 2 c.index-group-2.result ∙ word-sent (third_offset (slice_index words 1)) (slice_index words 2) (slice_index damages 2) in
-    let four : c.info-4.result ≡ Some (slice_index words 3) = c.info-4.ensures ∙ read_at 3 c.index-group-3.result ∙ word-sent D (slice_index words 3) (slice_index damages 3) in
+    c.info-3.ensures ∙ read_at 2 c.index-group-2.result ∙ info_is (third_offset (slice_index words 1)) (slice_index words 2) (slice_index damages 2) in
+    let four : c.info-4.result ≡ Some (slice_index words 3) = c.info-4.ensures ∙ read_at 3 c.index-group-3.result ∙ info_is D (slice_index words 3) (slice_index damages 3) in
     cc
 
 pub returns-clause-heard : goal.returns-clause-heard

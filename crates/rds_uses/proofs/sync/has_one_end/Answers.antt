@@ -1,8 +1,12 @@
 use Rattle.std.proofs.Common.{◌+◌, ◌*◌, ◌∙◌, refl, sym, arith}
 use Rattle.rds_uses.proofs.sync.has_one_end.Goals as goal
 
-pub returns : goal.returns
-returns c j p k sound =
+pub returns-clause-merged : goal.returns-clause-merged
+returns-clause-merged c s t met =
+    (c.runs_merge.ensures c.args.recording.now c.args.rules.now s t c.args.from c.args.middle c.args.to c.requires.before c.requires.after met).1
+
+pub returns-clause-sound : goal.returns-clause-sound
+returns-clause-sound c j p k sound =
     let b = c.args.recording.now in
     let rules = c.args.rules.now in
     let range = c.numbers-numbers.ensures.range in

@@ -1,4 +1,4 @@
-use Rattle.rds_uses.proofs.Names.{Err, IfErr-weaker, List, Ok, OnOk, Option, Result, ToolError, subst, sym, ℕ, ◌++◌, ◌∙◌, ◌≡◌}
+use Rattle.rds_uses.proofs.Names.{Err, IfErr-weaker, List, Ok, OnOk, Option, Result, RdsError, subst, sym, ℕ, ◌++◌, ◌∙◌, ◌≡◌}
 use Rattle.std.{specs.Io.KnownBytes.Consumes, proofs.lemmas.List.append_cancel_left}
 use Rattle.rds_tool.specs.History.{Gave}
 use Rattle.rds_uses.proofs.tool.heard_live.Goals as goal
@@ -8,7 +8,7 @@ module _ (given given' : List ℕ) (old new : Option (List ℕ)) (took : Gave gi
   consumed : (bytes : List ℕ) → given' ≡ given ++ bytes → Consumes old new bytes
   consumed bytes gave = subst (λ xs. Consumes old new xs) (append_cancel_left given took.0 bytes (sym took.1 ∙ gave)) took.2
 
-  to_end : {T : Type 0} (r : Result T ToolError) (P W : List ℕ → Type 0) (Q : Type 0) → OnOk r (Gave given given' (λ bytes. P bytes × W bytes)) → OnOk r Q
+  to_end : {T : Type 0} (r : Result T RdsError) (P W : List ℕ → Type 0) (Q : Type 0) → OnOk r (Gave given given' (λ bytes. P bytes × W bytes)) → OnOk r Q
       → OnOk r (Gave given given' (λ bytes. Consumes old new bytes × P bytes × Q))
   to_end (Ok x) P W Q heard end = (heard.0, heard.1, (consumed heard.0 heard.1, heard.2.0, end))
   to_end (Err e) P W Q heard end = tt
