@@ -365,6 +365,7 @@ def test_places_of_the_map(faults: Faults) -> None:
     missing = [name for name in NAME.findall(text) if not {*name.split("::")} <= held and not exists(name)]
     faults.extend(f"{page}: no source has {name}" for name in missing)
     faults.same(f"{page}, lines of the drawing", drawing.count("/src/"), len(lines))
+    faults.same(f"{page}, files of the drawing", len(lines), len({path for path, _ in lines}))
 
 
 def test_claims(faults: Faults) -> None:
