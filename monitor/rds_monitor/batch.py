@@ -5,8 +5,6 @@ shell. A listing is made there, and renamed into its place once it is whole. Whi
 which its jobs inherit.
 """
 
-from __future__ import annotations
-
 import argparse
 import fcntl
 import os

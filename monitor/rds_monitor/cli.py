@@ -4,8 +4,6 @@ A sub-command NAME of a module has two functions there: `options_NAME(parser)` a
 `run_NAME(arguments)` returns its exit status. Its line in `COMMANDS` is all that this file says of it.
 """
 
-from __future__ import annotations
-
 import argparse
 import ctypes
 import importlib

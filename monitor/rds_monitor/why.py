@@ -1,7 +1,5 @@
 """Why `rds` refused an input, or decoded little of it: the line, byte or gap at fault, or blocks that are not decoded."""
 
-from __future__ import annotations
-
 import argparse
 import re
 import signal

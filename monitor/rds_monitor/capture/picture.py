@@ -1,7 +1,5 @@
 """The spectrum of a capture with its stations marked, as a page of HTML without scripts."""
 
-from __future__ import annotations
-
 import math
 from html import escape
 from typing import Iterator, Sequence

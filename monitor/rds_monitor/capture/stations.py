@@ -1,7 +1,5 @@
 """The FM stations with RDS of a capture of IQ: the command `stations`."""
 
-from __future__ import annotations
-
 import argparse
 import json
 import sys

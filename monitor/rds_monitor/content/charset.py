@@ -3,8 +3,6 @@
 RBDS has the same set. A code below 0x20 is a control: 0x0A a preferred line break, 0x0B the end of a headline, 0x0D the
 end of the text, and 0x1F a soft hyphen. The table leaves 0x7F and 0xFF empty: they are shown as blanks.
 """
-from __future__ import annotations
-
 import json
 import re
 import unicodedata

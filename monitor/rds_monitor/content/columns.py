@@ -1,6 +1,4 @@
 """The groups of one programme as columns, and the values of fields in them."""
-from __future__ import annotations
-
 from functools import lru_cache
 from typing import Any, Dict, Iterable, List, NamedTuple, Sequence, Tuple
 

@@ -11,8 +11,6 @@ A value counts in a group whose four blocks are all valid, or when it was receiv
 in valid blocks. Corrected blocks alone never name a station. Another PI is another station, of which nothing is known
 yet. Names and texts are told by the rules of `turns`.
 """
-from __future__ import annotations
-
 from operator import itemgetter
 from typing import Any, Dict, List, Optional, Tuple
 

@@ -1,6 +1,4 @@
 """Events, the values that hold, and how both are told."""
-from __future__ import annotations
-
 from typing import Any, Dict, Iterable, List, NamedTuple, Optional, Sequence
 
 Value = Any

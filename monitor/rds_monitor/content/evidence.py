@@ -7,8 +7,6 @@ blocks alone say nothing.
 Parts belong to messages, such as the four pairs of a PS. News of a message is a part that differs from what counted
 before, and the first of each other part after such a change: what a decoder of messages needs, and all that it needs.
 """
-from __future__ import annotations
-
 from typing import Any, Dict, List, NamedTuple, Optional, Tuple
 
 import numpy

@@ -1,6 +1,4 @@
 """Flags, codes and features: what a group says by itself."""
-from __future__ import annotations
-
 import datetime
 from typing import Any, Dict, Optional, Tuple
 

@@ -3,8 +3,6 @@
 The clauses are those of the edition of 2009; EN 50067:1998 has the same text in its clause 3 in place of 6. Enhanced
 RadioText, RadioText Plus, the DAB link and the long PS are of later documents, which their lines name.
 """
-from __future__ import annotations
-
 import re
 from typing import Any, NamedTuple, Tuple
 

@@ -1,6 +1,4 @@
 """The command `info`: what stations say of themselves, as a summary, or as CSV or JSON of changes."""
-from __future__ import annotations
-
 import argparse
 import csv
 import sys

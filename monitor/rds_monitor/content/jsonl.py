@@ -1,6 +1,4 @@
 """The command `json`: a line of JSON per event, per row of the listing, or per group with the keys of redsea."""
-from __future__ import annotations
-
 import argparse
 import sys
 from functools import lru_cache

@@ -1,6 +1,4 @@
 """Which fields are looked at in which groups: tables, by the fields of `fields.py`."""
-from __future__ import annotations
-
 from enum import IntEnum
 from functools import lru_cache
 from typing import Dict, FrozenSet, List, NamedTuple, Optional, Tuple

@@ -1,6 +1,4 @@
 """The names and texts in the groups of one programme, as they become whole and as they end."""
-from __future__ import annotations
-
 from typing import Dict, Iterator, List, NamedTuple, Optional, Tuple
 
 import numpy

@@ -1,6 +1,4 @@
 """Names of codes: programme types, languages, countries, open data applications, RadioText Plus, DAB channels."""
-from __future__ import annotations
-
 import re
 from typing import Dict, Optional
 

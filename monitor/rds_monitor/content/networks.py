@@ -1,6 +1,4 @@
 """Alternative frequencies, and other networks (EON)."""
-from __future__ import annotations
-
 from typing import Any, Dict, List, Optional, Tuple
 
 from . import names

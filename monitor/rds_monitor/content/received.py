@@ -1,6 +1,4 @@
 """The news in the groups of one programme: which values changed, and which names and texts are whole."""
-from __future__ import annotations
-
 from typing import Dict, Iterator, List, Sequence, Tuple
 
 import numpy

@@ -3,8 +3,6 @@
 Values are those that count by the rules of `content`, so they are the station's and no wrong correction's; a PS or a
 text is written with the last group of its turn, as long as it holds.
 """
-from __future__ import annotations
-
 from functools import lru_cache
 from itertools import chain, groupby
 from operator import itemgetter

@@ -1,6 +1,4 @@
 """Names and texts: PS, RadioText with RadioText Plus, programme type name, long PS, enhanced RadioText."""
-from __future__ import annotations
-
 from functools import lru_cache
 from typing import Dict, List, NamedTuple, Optional, Tuple
 

@@ -12,8 +12,6 @@ their constants:
 - An outage of more than `OUTAGE_BITS` ends every name and text. So does a time in which a whole turn can have been
   missed, by the pace of the last segments, unless all pairs are those of the text that was told.
 """
-from __future__ import annotations
-
 from collections import deque
 from functools import cached_property
 from typing import Any, Deque, Dict, Generator, Iterator, List, NamedTuple, Optional, Tuple

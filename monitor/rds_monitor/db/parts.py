@@ -1,8 +1,6 @@
 """Rows of a session as rows of the database: minutes, events, outages. A part is a whole session, or an hour of one that goes
 on; the contents, and an outage in progress, go on in the next part."""
 
-from __future__ import annotations
-
 from typing import Dict, Iterator, List, NamedTuple, Optional, Tuple
 
 import numpy

@@ -1,7 +1,5 @@
 """How a station stands: its state in a word, and for how long it was received, or why not."""
 
-from __future__ import annotations
-
 import sqlite3
 from typing import Any, Dict, Mapping, NamedTuple, Optional
 

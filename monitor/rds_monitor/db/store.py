@@ -4,8 +4,6 @@ A recording is known by its name, and one of that name replaces it, all in one t
 views give their times by the start and the rate of the session: a clock that becomes known later is two values.
 """
 
-from __future__ import annotations
-
 import argparse
 import json
 import os

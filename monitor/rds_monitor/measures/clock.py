@@ -1,7 +1,5 @@
 """The station's clock: the groups of clock time (CT), and the start and the rate of a recording by them."""
 
-from __future__ import annotations
-
 import argparse
 import statistics
 from typing import Iterator, List, NamedTuple, Tuple

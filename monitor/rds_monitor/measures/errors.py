@@ -1,7 +1,5 @@
 """Block errors by interval: the command `errors`. What was sent is counted by the clock, whether or not there are groups."""
 
-from __future__ import annotations
-
 import argparse
 from typing import Any, Iterator, List, NamedTuple
 

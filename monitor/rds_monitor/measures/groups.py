@@ -1,7 +1,5 @@
 """The command `groups`: groups as lines of four hexadecimal words, as redsea and RDS Spy read them."""
 
-from __future__ import annotations
-
 import argparse
 import sys
 from typing import Any, List

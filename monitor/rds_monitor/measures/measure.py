@@ -1,7 +1,5 @@
 """Which PI codes and group types were received, and which blocks were corrected: chunk by chunk, by numpy."""
 
-from __future__ import annotations
-
 import argparse
 from typing import Any, Dict, Iterator, List, NamedTuple, Optional, Tuple
 

@@ -1,7 +1,5 @@
 """When no RDS was received: the command `outages`."""
 
-from __future__ import annotations
-
 import argparse
 import math
 from typing import Iterator, List, Optional, Tuple

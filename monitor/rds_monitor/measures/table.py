@@ -1,7 +1,5 @@
 """The rows of an input as a table with times: CSV with names of columns, or Parquet with numbers."""
 
-from __future__ import annotations
-
 import argparse
 import importlib
 from typing import Any, Dict, Iterator, Tuple

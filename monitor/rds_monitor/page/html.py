@@ -1,7 +1,5 @@
 """The page of HTML: a station is a dictionary of what is told of it."""
 
-from __future__ import annotations
-
 import base64
 import hashlib
 import importlib

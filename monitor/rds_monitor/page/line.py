@@ -1,7 +1,5 @@
 """A station's line of time: all that its page draws, in seconds from a beginning, and as few rows as can be seen."""
 
-from __future__ import annotations
-
 import base64
 import math
 from collections import Counter

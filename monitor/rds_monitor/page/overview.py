@@ -1,7 +1,5 @@
 """A station's tile: the last minute, the last day as a line, how long ago the last whole group was, and an alarm."""
 
-from __future__ import annotations
-
 from typing import Any, Dict, List, NamedTuple, Optional, Sequence
 
 import numpy

@@ -1,7 +1,5 @@
 """A page to look at: block errors, outages, contents and group mix of stations, in one file that needs nothing else."""
 
-from __future__ import annotations
-
 import argparse
 import math
 import os

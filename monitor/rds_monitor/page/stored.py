@@ -1,7 +1,5 @@
 """Stations of a database of `rds-monitor db`, as a page shows them."""
 
-from __future__ import annotations
-
 import itertools
 import json
 import math

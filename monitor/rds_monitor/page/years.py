@@ -1,7 +1,5 @@
 """Pages of years: in one folder an overview, the availability as CSV, and per station a page by days and one per month by hours."""
 
-from __future__ import annotations
-
 import csv
 import datetime
 import io

@@ -1,7 +1,5 @@
 """Which bits are inside blocks of RDS: the reception that a decoder can have (IEC 62106, clauses 2.3 and annex A)."""
 
-from __future__ import annotations
-
 from itertools import accumulate
 from typing import Optional
 

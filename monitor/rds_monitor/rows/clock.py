@@ -1,8 +1,6 @@
 """When a bit was received: bit positions as seconds and as UTC, by the start and the rate of a recording, or by the
 clock time (CT) that its station sends."""
 
-from __future__ import annotations
-
 import argparse
 import datetime
 import re

@@ -1,6 +1,4 @@
 """Compressed inputs, identified by their first bytes: gzip, xz and zstd."""
-from __future__ import annotations
-
 import importlib
 import lzma
 import zlib

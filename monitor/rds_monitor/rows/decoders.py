@@ -6,8 +6,6 @@ that the bits so far complete. `finish` takes the first `bits` of the last bytes
 with a margin bytes are symbols, one more than bits, and `finish` takes none.
 """
 
-from __future__ import annotations
-
 import array
 import fcntl
 import importlib

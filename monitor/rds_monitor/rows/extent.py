@@ -1,7 +1,5 @@
 """From where to where an input tells something, and its items on the way."""
 
-from __future__ import annotations
-
 import sys
 import time
 from itertools import chain, islice

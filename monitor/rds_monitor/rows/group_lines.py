@@ -6,8 +6,6 @@
 A block that is not known is `----`. RDS Spy adds the time after `@`; in place of it redsea may have a time of any form.
 Lines that begin with `<`, and lines `G:`, hold no group.
 """
-from __future__ import annotations
-
 import datetime
 import re
 from itertools import chain

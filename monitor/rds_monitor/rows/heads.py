@@ -1,7 +1,5 @@
 """What an input is, by its first bytes: a listing, groups in hexadecimal, or bits."""
 
-from __future__ import annotations
-
 import re
 from itertools import islice
 

@@ -1,7 +1,5 @@
 """The options of every command that reads an input, and the source that they name."""
 
-from __future__ import annotations
-
 import argparse
 import os
 import re

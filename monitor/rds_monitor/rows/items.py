@@ -4,8 +4,6 @@ Commands work on numpy arrays of the dtype `ITEM`, a row per acquisition, group 
 `Source` gives them in chunks, so memory does not grow with the length of the input.
 """
 
-from __future__ import annotations
-
 from typing import Any, Iterator, NamedTuple, Optional, Protocol, Sequence, Tuple
 
 import numpy

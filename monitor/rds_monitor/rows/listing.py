@@ -6,8 +6,6 @@ with its mark. Rows are parsed by numpy over the bytes of many lines at once (pa
 judged here.
 """
 
-from __future__ import annotations
-
 import re
 from itertools import chain
 from typing import Iterator, List, NoReturn, Optional, Sequence, Tuple

@@ -1,7 +1,5 @@
 """The source of an input, which is told apart by content: a recording, a listing, or groups in hexadecimal."""
 
-from __future__ import annotations
-
 import io
 import os
 import stat

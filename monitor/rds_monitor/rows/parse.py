@@ -3,8 +3,6 @@
 Each check marks the rows that it finds bad; the first bad row of all is told, with the first reason for it.
 """
 
-from __future__ import annotations
-
 from typing import Any, List, Optional, Tuple
 
 import numpy

@@ -1,7 +1,5 @@
 """An input that is no file: nothing that was written waits while it does, and standard error tells of sync."""
 
-from __future__ import annotations
-
 import select
 import sys
 import time

@@ -1,7 +1,5 @@
 """A recording of packed bits, or of symbols, as a source of rows."""
 
-from __future__ import annotations
-
 from itertools import chain
 from typing import Iterator, Optional
 

@@ -1,7 +1,5 @@
 """The end of a stream of symbols, which librds does not tell: the group in progress, and the totals."""
 
-from __future__ import annotations
-
 import numpy
 
 from .items import BLOCK_BITS, BLOCKS, CORRECTED, GROUP, GROUP_BITS

@@ -1,7 +1,5 @@
 """Bits of RDS from MPX or IQ: the command `demod`."""
 
-from __future__ import annotations
-
 import argparse
 import sys
 from functools import partial

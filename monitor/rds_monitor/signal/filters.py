@@ -1,7 +1,5 @@
 """Bands of a signal, each shifted to 0 Hz and filtered, by Fourier transforms of overlapping blocks."""
 
-from __future__ import annotations
-
 import math
 from fractions import Fraction
 from typing import Callable, Iterator, List, Optional, Sequence, Union

@@ -1,7 +1,5 @@
 """Which form the bits or samples of a file are in: the command `form`."""
 
-from __future__ import annotations
-
 import argparse
 import io
 import os

@@ -1,7 +1,5 @@
 """Where carrier or bit clock jump: samples were dropped there, or the transmitter's pilot jumped."""
 
-from __future__ import annotations
-
 import math
 from typing import List, NamedTuple
 

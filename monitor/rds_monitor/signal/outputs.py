@@ -1,7 +1,5 @@
 """What `demod` writes: bits or symbols, and how well they were received."""
 
-from __future__ import annotations
-
 import argparse
 import json
 import time

@@ -1,7 +1,5 @@
 """Packed bits, most significant bit first, from bits and samples in other forms: the command `pack`."""
 
-from __future__ import annotations
-
 import argparse
 import sys
 from functools import partial

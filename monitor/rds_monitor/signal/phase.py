@@ -1,7 +1,5 @@
 """The phase of a slowly turning phasor, estimated from noisy values at equal steps."""
 
-from __future__ import annotations
-
 import math
 from typing import NamedTuple
 

@@ -1,7 +1,5 @@
 """The receiver of RDS: from MPX, or from IQ with one station or several, to bits, and how well they were received."""
 
-from __future__ import annotations
-
 import math
 from dataclasses import dataclass, field
 from fractions import Fraction

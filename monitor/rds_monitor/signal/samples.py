@@ -1,7 +1,5 @@
 """Samples of a signal, from WAV, FLAC or raw files or a pipe, in blocks: real for MPX, complex for IQ."""
 
-from __future__ import annotations
-
 import importlib
 import os
 import struct

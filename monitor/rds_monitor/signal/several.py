@@ -1,7 +1,5 @@
 """Several stations of one capture of IQ, each to bits of its own: `demod --stations`."""
 
-from __future__ import annotations
-
 import argparse
 import json
 import math

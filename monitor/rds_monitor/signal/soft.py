@@ -1,7 +1,5 @@
 """Symbols for soft decisions: signed bytes, the log-likelihood ratios of their signs in 1/16 nat."""
 
-from __future__ import annotations
-
 import numpy
 
 from .samples import Complexes, Reals

@@ -4,8 +4,6 @@ A chip is half a biphase symbol; chips come at 2,375 a second, and the two of a 
 are by segments of the signal, from what is before and after: there is no loop that would have to lock.
 """
 
-from __future__ import annotations
-
 import math
 from typing import NamedTuple, Optional
 

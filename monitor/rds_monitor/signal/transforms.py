@@ -1,7 +1,5 @@
 """Fourier transforms of rows of complex numbers in single precision: by pyFFTW, scipy or numpy, the first that is installed."""
 
-from __future__ import annotations
-
 import importlib
 from functools import lru_cache
 from typing import Any, Dict, Tuple

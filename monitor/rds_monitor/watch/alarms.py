@@ -1,7 +1,5 @@
 """Alarms of a station: when each begins and ends."""
 
-from __future__ import annotations
-
 import math
 import re
 from collections import deque

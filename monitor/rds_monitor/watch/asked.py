@@ -1,7 +1,5 @@
 """`check --station`: the verdict on a station by the database of a watch."""
 
-from __future__ import annotations
-
 import fcntl
 import json
 import os

@@ -1,7 +1,5 @@
 """From the output of a receiver's command to packed bits, or to symbols."""
 
-from __future__ import annotations
-
 import json
 import math
 from typing import Optional, Sequence

@@ -4,8 +4,6 @@ status.
 What cannot be judged is UNKNOWN, whatever the reason: an error in the command line too.
 """
 
-from __future__ import annotations
-
 import argparse
 import io
 import os

@@ -1,7 +1,5 @@
 """Compresses hours' files that are closed."""
 
-from __future__ import annotations
-
 import os
 
 from ..rows.compressed import zstandard

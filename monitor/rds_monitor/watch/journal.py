@@ -1,7 +1,5 @@
 """Lines for the journal, and words to systemd: by a datagram to the socket that it names, the only one that is ever used."""
 
-from __future__ import annotations
-
 import os
 import socket
 import sys

@@ -1,7 +1,5 @@
 """A session that goes on: bits to rows, rows to hours' files and records."""
 
-from __future__ import annotations
-
 import os
 from contextlib import suppress
 from typing import Dict, List, NamedTuple, Optional, Tuple

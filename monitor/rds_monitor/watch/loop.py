@@ -1,7 +1,5 @@
 """The watch: all stations, tick by tick."""
 
-from __future__ import annotations
-
 import math
 import os
 import sqlite3

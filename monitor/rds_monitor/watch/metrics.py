@@ -1,7 +1,5 @@
 """The state of the stations in the text format of Prometheus."""
 
-from __future__ import annotations
-
 from typing import Any, Dict, Iterable, Iterator, List, Mapping, NamedTuple, Tuple
 
 from ..db.standing import STATES, Availability, bad_in, standing_of

@@ -1,8 +1,6 @@
 """Pages of the network as it is: an overview with a tile per station, and a page per station. They have no script, and texts
 of stations are escaped. `rds-monitor report` draws a recording with zoom."""
 
-from __future__ import annotations
-
 import base64
 import hashlib
 import os

@@ -1,7 +1,5 @@
 """A receiver's command as a process: started, read, restarted after growing pauses, stopped."""
 
-from __future__ import annotations
-
 import fcntl
 import os
 import signal

@@ -1,7 +1,5 @@
 """The watch's part of the database: each tick is one transaction, and each thing is stored once."""
 
-from __future__ import annotations
-
 import json
 import sqlite3
 from typing import Any, Dict, List, NamedTuple, Optional, Sequence, Tuple, Union

@@ -1,7 +1,5 @@
 """Recovery after a watch was killed: hours' files are made whole, and the database gets the rows that it lacks."""
 
-from __future__ import annotations
-
 import io
 import os
 from typing import Iterator, List, Optional, Tuple

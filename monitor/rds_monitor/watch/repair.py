@@ -1,7 +1,5 @@
 """Repair of an hour's file after a crash."""
 
-from __future__ import annotations
-
 import os
 
 from ..rows.parse import parse

@@ -1,7 +1,5 @@
 """Removes hours and rows that are older, or larger together, than the table allows."""
 
-from __future__ import annotations
-
 import os
 from typing import Iterator, List, NamedTuple, Set
 

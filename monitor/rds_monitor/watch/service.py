@@ -1,7 +1,5 @@
 """The command `watch`: receivers of a network, day and night."""
 
-from __future__ import annotations
-
 import argparse
 import fcntl
 import os

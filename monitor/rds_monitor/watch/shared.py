@@ -1,7 +1,5 @@
 """A receiver that several stations share: one process of its command, and one that demodulates all of them."""
 
-from __future__ import annotations
-
 import re
 from collections import deque
 from typing import Any, Deque, Dict, List, Optional, Tuple
@@ -34,7 +32,7 @@ class SharedReceiver:
         self._read_at: Optional[float] = None
         self.is_stopped = False
 
-    def tap(self, hertz: int, now: float) -> Tap:
+    def tap(self, hertz: int, now: float) -> "Tap":
         self._taps[hertz] = Tap(self, now)
         return self._taps[hertz]
 

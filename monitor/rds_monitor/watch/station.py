@@ -1,7 +1,5 @@
 """A station that is watched: its receiver, its session, its alarms and its state."""
 
-from __future__ import annotations
-
 import math
 from collections import deque
 from typing import Any, Deque, Dict, List, Optional, Tuple, Union

@@ -1,7 +1,5 @@
 """The table of stations: its keys, their values and their defaults."""
 
-from __future__ import annotations
-
 import importlib
 import re
 from dataclasses import dataclass, field, fields, replace
@@ -119,7 +117,7 @@ class Table(NamedTuple):
     # Whether it says `soft = true`: soft decisions by default need no decoder that has them.
     needs_soft: bool = False
 
-    def hard(self) -> Table:
+    def hard(self) -> "Table":
         """The same without soft decisions."""
         receivers = {one.name: replace(one, soft=False) for one in self.receivers}
         hard = (replace(one, soft=False) for one in self.stations)

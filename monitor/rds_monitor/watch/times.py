@@ -1,7 +1,5 @@
 """Times: UTC counted by the monotonic clock, and when bits were sent, by when they came."""
 
-from __future__ import annotations
-
 import math
 import time
 from collections import deque

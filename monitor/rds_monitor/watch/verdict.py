@@ -1,7 +1,5 @@
 """The verdict on a station, and the limits by which it is judged."""
 
-from __future__ import annotations
-
 import re
 from typing import List, NamedTuple, Optional, Sequence
 

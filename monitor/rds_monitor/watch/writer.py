@@ -1,7 +1,5 @@
 """Writes rows of hours, the database, pages and metrics to disk, in a thread of its own. If a write fails, all waits for the next try."""
 
-from __future__ import annotations
-
 import os
 import sqlite3
 import threading
