@@ -2,8 +2,7 @@
 """A simulated wideband receiver: u8 IQ of several FM stations, over and over, in real time: capture.py --keep FILE > iq.u8
 
 Each station sends pilot, a tone and RDS. The part that is repeated has whole groups, and whole cycles of all carriers, so no bit is lost
-where it begins again. It is made in some seconds, and kept in FILE.
-"""
+where it begins again. It is made in some seconds, and kept in FILE."""
 
 from __future__ import annotations
 

@@ -5,8 +5,7 @@
 
 Group N of a station is the same whoever receives it: it begins N / 11.418 seconds after 1970. Each sixth group has its number (6A).
 --errors is the rate of wrong bits. --outage is noise for the last SECONDS of every EVERY seconds. --dies ends the program after some
-seconds of the station, --hangs lets it go on without output, --wrong-pi is another PI for some seconds, like an outage.
-"""
+seconds of the station, --hangs lets it go on without output, --wrong-pi is another PI for some seconds, like an outage."""
 
 from __future__ import annotations
 

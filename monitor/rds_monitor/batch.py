@@ -1,9 +1,7 @@
 """A folder of recordings into a folder of listings, by GNU parallel: the command `batch`.
 
-The recordings get numbers as names in a folder of this batch, so that whatever is in their own names reaches no
-shell. A listing is made there, and renamed into its place once it is whole. While a batch is at work it holds a lock,
-which its jobs inherit.
-"""
+The recordings get numbers as names in a folder of this batch, so that whatever is in their own names reaches no shell. A listing is made
+there, and renamed into its place once it is whole. While a batch is at work it holds a lock, which its jobs inherit."""
 
 import argparse
 import fcntl

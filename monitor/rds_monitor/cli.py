@@ -1,8 +1,7 @@
 """The command `rds-monitor`: its sub-commands, their common options, exit statuses and errors.
 
 A sub-command NAME of a module has two functions there: `options_NAME(parser)` adds its options, and
-`run_NAME(arguments)` returns its exit status. Its line in `COMMANDS` is all that this file says of it.
-"""
+`run_NAME(arguments)` returns its exit status. Its line in `COMMANDS` is all that this file says of it."""
 
 import argparse
 import ctypes
@@ -58,8 +57,7 @@ COMMANDS = (
 
 
 class Parser(argparse.ArgumentParser):
-    """Errors are lines `rds-monitor NAME: the fault`, then the usage, with status 2; a command may have a way of its
-    own."""
+    """Errors are lines `rds-monitor NAME: the fault`, then the usage, with status 2; a command may have a way of its own."""
 
     on_error: Optional[Callable[[str], NoReturn]] = None
 
@@ -147,8 +145,7 @@ def main(words: Optional[Sequence[str]] = None) -> int:
 
 
 def tune_memory() -> None:
-    """Keeps memory that was given back, since each chunk asks for as much again: a tenth of the time goes into new
-    pages else."""
+    """Keeps memory that was given back, since each chunk asks for as much again: a tenth of the time goes into new pages else."""
     try:
         library = ctypes.CDLL(None)
         for name in (-1, -3):

@@ -1,8 +1,7 @@
 """The basic character set of RDS (IEC 62106, Annex E, table E.1), and text that is safe to print.
 
 RBDS has the same set. A code below 0x20 is a control: 0x0A a preferred line break, 0x0B the end of a headline, 0x0D the
-end of the text, and 0x1F a soft hyphen. The table leaves 0x7F and 0xFF empty: they are shown as blanks.
-"""
+end of the text, and 0x1F a soft hyphen. The table leaves 0x7F and 0xFF empty: they are shown as blanks."""
 import json
 import re
 import unicodedata
@@ -73,8 +72,7 @@ def printable(text: str) -> str:
     """The text in one line that is safe on a terminal.
 
     Escaped by a backslash, as in Python, are controls, marks that turn the direction of writing, combining marks beyond
-    two on a letter, and a backslash.
-    """
+    two on a letter, and a backslash."""
     text = text.replace("\\", "\\\\")
     if text.isascii() and text.isprintable():
         return text

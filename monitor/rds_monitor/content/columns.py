@@ -27,8 +27,7 @@ def fields_of(prefix: str, value: Any, names: str) -> List[Any]:
 
 
 class Columns(NamedTuple):
-    """Groups, a row each: first position, four words, which of these are known and valid, and group type code; a column
-    for each block."""
+    """Groups, a row each: first position, four words, which of these are known and valid, and group type code; a column for each block."""
 
     place: Array
     words: Array
@@ -88,8 +87,7 @@ class Groups:
     """Some groups of one programme, whose second blocks are known.
 
     A station sends the same few groups over and over: `alike` has a row for those that are alike, and `of` is the number
-    of its row for each group. Methods take and give numbers of such rows.
-    """
+    of its row for each group. Methods take and give numbers of such rows."""
 
     def __init__(self, columns: Columns, chosen: Array) -> None:
         self.place = columns.place[chosen]

@@ -18,8 +18,7 @@ class Event(NamedTuple):
     """A value that changed in the group whose first bit is at this place, of this PI.
 
     Values are such as JSON has; `text` is the same for a reader. `before` is None for the first value of an item, and
-    `value` is None for an item that is no longer sent.
-    """
+    `value` is None for an item that is no longer sent."""
 
     place: int
     pi: int

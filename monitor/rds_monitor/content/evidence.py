@@ -1,12 +1,10 @@
 """Which received values count, and which of those are news: by numpy, since a station says the same thing all day.
 
-A part is whatever is sent under one address: a flag, two characters of a name, the PI. A part counts in a group whose
-four blocks are all valid, and when it is received twice in a row alike, of which once in valid blocks. So corrected
-blocks alone say nothing.
+A part is whatever is sent under one address: a flag, two characters of a name, the PI. A part counts in a group whose four blocks are all
+valid, and when it is received twice in a row alike, of which once in valid blocks. So corrected blocks alone say nothing.
 
 Parts belong to messages, such as the four pairs of a PS. News of a message is a part that differs from what counted
-before, and the first of each other part after such a change: what a decoder of messages needs, and all that it needs.
-"""
+before, and the first of each other part after such a change: what a decoder of messages needs, and all that it needs."""
 from typing import Any, Dict, List, NamedTuple, Optional, Tuple
 
 import numpy

@@ -105,8 +105,7 @@ class TextLook(NamedTuple):
 
     `first` is the number of the first segment, and `message` tells one of several texts apart. Another value of `flag`
     begins another text; groups have to carry the flag that counts, or if there is a `coding`, that has to count. Their
-    type has to be assigned to one of the `applications` if there are any, or to none for -1.
-    """
+    type has to be assigned to one of the `applications` if there are any, or to none for -1."""
 
     kind: Kind
     groups: str

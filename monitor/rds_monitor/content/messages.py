@@ -17,8 +17,7 @@ MOST_BEGUN = 256
 class TextChange(NamedTuple):
     """The characters of a text that became whole in the group with this number, or None if it holds no more.
 
-    `message` tells which of several texts it is, or its coding.
-    """
+    `message` tells which of several texts it is, or its coding."""
 
     at: int
     kind: Kind

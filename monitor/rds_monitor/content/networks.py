@@ -30,8 +30,7 @@ class FrequencyList:
 
     By method A each frequency comes once. By method B the first one is that of a transmitter, and comes again in each
     pair: if the pair rises, beside a frequency of the same programme, else beside one of a regional variant. The list
-    is complete once as many pairs came as its head says; any other pair after that begins it anew.
-    """
+    is complete once as many pairs came as its head says; any other pair after that begins it anew."""
 
     TURNS = 8
 
@@ -46,8 +45,7 @@ class FrequencyList:
         self._list = self._found()
 
     def take(self, pair: int) -> Any:
-        """Takes a pair that counts. Returns the list if it became complete: the frequencies, or by method B those of one
-        transmitter."""
+        """Takes a pair that counts. Returns the list if it became complete: the frequencies, or by method B those of one transmitter."""
         if pair == self.head:
             self._turns += 1
             if self._turns == 1:

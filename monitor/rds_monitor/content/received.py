@@ -80,8 +80,7 @@ class Received:
     def __init__(
         self, everything: bool = False, kinds: Sequence[int] = tuple(Kind), lapses: bool = True
     ) -> None:
-        """News of these kinds are of use. With `everything`, all that counts is news: slow, and the measure that `news` is
-        tested by."""
+        """News of these kinds are of use. With `everything`, all that counts is news: slow, and the measure that `news` is tested by."""
         self._everything = everything
         self._evidence, self._frequencies = Evidence(), FrequencyNews()
         self._assigned: Dict[int, int] = {}
@@ -90,8 +89,7 @@ class Received:
         self._sifted = [kind for kind in LOOKS if kind in kinds and kind not in {*APART, *FLAGS}]
 
     def news(self, columns: Columns, chosen: Array) -> Tuple[News, List[TextChange]]:
-        """The news of the chosen groups, in the order of the groups and of the kinds within each, and the changes of texts
-        in any order."""
+        """The news of the chosen groups, in the order of the groups and of the kinds within each, and the changes of texts in any order."""
         groups = Groups(columns, chosen)
         self._assign(groups, assignments := self._sift(groups, self._seen(groups, Kind.ODA)))
         flags, texts = self._messages.changes(groups, self._evidence)

@@ -1,8 +1,7 @@
 """Groups as redsea's JSON: a line per group, by the keys of redsea for what both know.
 
 Values are those that count by the rules of `content`, so they are the station's and no wrong correction's; a PS or a
-text is written with the last group of its turn, as long as it holds.
-"""
+text is written with the last group of its turn, as long as it holds."""
 from functools import lru_cache
 from itertools import chain, groupby
 from operator import itemgetter

@@ -1,8 +1,7 @@
 """Names and texts in segments. One is told if all of it was sent in one turn, or in turns that agree.
 
-A turn is a run of segments whose numbers rise. A pair of characters is valid if the blocks that carry it are, confirmed
-if it came twice alike, and else single. The rules are this project's; docs/ACCURACY.md has the simulation that chose
-their constants:
+A turn is a run of segments whose numbers rise. A pair of characters is valid if the blocks that carry it are, confirmed if it came twice
+alike, and else single. The rules are this project's; docs/ACCURACY.md has the simulation that chose their constants:
 
 - A turn that has all pairs is told at its last pair. At the end of each turn its pairs join those of earlier turns.
 - Few pairs of a text that is told may be single: two if at least 14 of the last 16 pairs were valid, one if 6 were.
@@ -10,8 +9,7 @@ their constants:
   and ends the text if it comes twice alike.
 - A pair of a name joins later turns for `NAME_TURNS` turns, a pair of a text for `TEXT_BITS`.
 - An outage of more than `OUTAGE_BITS` ends every name and text. So does a time in which a whole turn can have been
-  missed, by the pace of the last segments, unless all pairs are those of the text that was told.
-"""
+  missed, by the pace of the last segments, unless all pairs are those of the text that was told."""
 from collections import deque
 from functools import cached_property
 from typing import Any, Deque, Dict, Generator, Iterator, List, NamedTuple, Optional, Tuple
@@ -41,8 +39,7 @@ class Shape(NamedTuple):
     """The layout of a name or text: its most segments, the pairs of characters in each, and where it may end.
 
     A name has all of its segments. A text may end before: by a pair that has the character `END_OF_TEXT`, or is it if
-    characters are `wide`, or where its segments begin anew.
-    """
+    characters are `wide`, or where its segments begin anew."""
 
     segments: int
     pairs: int
@@ -373,8 +370,7 @@ class Message:
         self._earlier = {position: pair for position, pair in pairs.items() if pair[2] != self._turn}
 
     def _follow(self, rows: List[Row], row: int, end: int, said: Distinct, told: WholeText) -> int:
-        """Notes when each pair came last in the rows that say the told text again, and returns the first that does
-        not, or the end."""
+        """Notes when each pair came last in the rows that say the told text again, and returns the first that does not, or the end."""
         size, now, before, is_length = self._shape.pairs, self._now, self._segment, self._length == told.size
         for row in range(row, end):
             place, number, run, is_missed = rows[row]

@@ -1,8 +1,7 @@
 """A database of recordings, by SQLite: a row per minute, events, outages, and the groups if asked for (schema.py).
 
 A recording is known by its name, and one of that name replaces it, all in one transaction. Positions are stored, and
-views give their times by the start and the rate of the session: a clock that becomes known later is two values.
-"""
+views give their times by the start and the rate of the session: a clock that becomes known later is two values."""
 
 import argparse
 import json
@@ -47,8 +46,7 @@ def roll_back(database: sqlite3.Connection) -> None:
 
 
 class SessionRows:
-    """Writes the rows of sessions into an open database: each once. A minute without a group names no contents, unless
-    `idle_too`."""
+    """Writes the rows of sessions into an open database: each once. A minute without a group names no contents, unless `idle_too`."""
 
     def __init__(self, database: sqlite3.Connection, idle_too: bool = False):
         self._database, self._idle_too = database, idle_too

@@ -10,16 +10,14 @@ from ..rows.items import GROUP, VALID, VERSION_A, Fault, Rows
 
 
 class Tick(NamedTuple):
-    """A group of clock time: the position after its last bit, at which the minute begins, and that minute in seconds
-    since 1970."""
+    """A group of clock time: the position after its last bit, at which the minute begins, and that minute in seconds since 1970."""
 
     place: int
     time: int
 
 
 def ticks_of(rows: Rows) -> List[Tick]:
-    """The groups of clock time (4A, IEC 62106 section 3.1.5.6) whose four blocks are valid. Hour 24 and minute 60 are
-    none."""
+    """The groups of clock time (4A, IEC 62106 section 3.1.5.6) whose four blocks are valid. Hour 24 and minute 60 are none."""
     at = (rows["what"] == GROUP) & (rows["number"] == 4) & (rows["version"] == VERSION_A)
     found = rows[at]
     for block in (1, 2, 3, 4):

@@ -13,8 +13,7 @@ from ..rows.listing import groups_in, kinds_of, places_of
 
 
 class Interval(NamedTuple):
-    """Blocks of an interval: those sent by the clock, and of these those valid, corrected, uncorrectable and not
-    read."""
+    """Blocks of an interval: those sent by the clock, and of these those valid, corrected, uncorrectable and not read."""
 
     begin: float
     end: float
@@ -35,8 +34,7 @@ class Interval(NamedTuple):
 
 
 class Errors:
-    """Blocks by intervals of `bits` bits, from the interval of number `first` on. A block belongs to the interval of its first
-    bit."""
+    """Blocks by intervals of `bits` bits, from the interval of number `first` on. A block belongs to the interval of its first bit."""
 
     def __init__(self, bits: float, first: int = 0):
         self.bits, self._first = bits, first

@@ -14,7 +14,6 @@ GENERATOR = 0x5B9  # of degree 10
 NUMBERS = numpy.full(1024, -1)
 NUMBERS[[0x0FC, 0x198, 0x168, 0x350, 0x1B4]] = 0, 1, 2, 2, 3
 
-
 # That of each bit of a block, the first bit first.
 _DOUBLED = accumulate([1] * BLOCK_BITS, lambda rest, _: rest << 1 ^ (GENERATOR if rest >> 9 else 0))
 REMAINDERS = [*_DOUBLED][::-1]

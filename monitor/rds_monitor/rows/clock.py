@@ -18,8 +18,7 @@ LAST_YEAR = 9990
 
 
 class Clock(NamedTuple):
-    """The UTC of a recording's first bit, in seconds since 1970, if known, and the bits per second of the sampler's
-    clock."""
+    """The UTC of a recording's first bit, in seconds since 1970, if known, and the bits per second of the sampler's clock."""
 
     start: Optional[float] = None
     rate: float = RATE

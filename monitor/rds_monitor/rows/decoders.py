@@ -3,8 +3,7 @@
 Both give the same rows at the same time, and raise the same `Fault`. A decoder is made of rules, gaps and the number of bits to
 decode, if that is known. `place` is how many bits were pushed, and `place_after` counts bytes to come too. `push` gives all rows
 that the bits so far complete. `finish` takes the first `bits` of the last bytes, and gives the last rows and the totals. By rules
-with a margin bytes are symbols, one more than bits, and `finish` takes none.
-"""
+with a margin bytes are symbols, one more than bits, and `finish` takes none."""
 
 import array
 import fcntl

@@ -4,8 +4,7 @@
     D393 ---- E0CD 5041 @2026/03/29 00:30:00.09
 
 A block that is not known is `----`. RDS Spy adds the time after `@`; in place of it redsea may have a time of any form.
-Lines that begin with `<`, and lines `G:`, hold no group.
-"""
+Lines that begin with `<`, and lines `G:`, hold no group."""
 import datetime
 import re
 from itertools import chain
@@ -52,11 +51,9 @@ def _time_of(text: str, number: int) -> float:
 
 
 class GroupLines:
-    """A source of lines. Their groups are taken to follow each other, unless times say that some are missing between
-    two.
+    """A source of lines. Their groups are taken to follow each other, unless times say that some are missing between two.
 
-    Times are trusted to `SLACK` seconds, since a computer writes them when it comes to it. `start` is the time of the
-    first group.
+    Times are trusted to `SLACK` seconds, since a computer writes them when it comes to it. `start` is the time of the first group.
     """
 
     SLACK = 1.25

@@ -1,10 +1,8 @@
 """The reader and the writer of listings, the text of `rds list` and `rds follow`.
 
-The reader takes no row that it would not write again in the same bytes: it compares the type and version of a group
-with its blocks, each row with the one before, and the totals with the rows. Lines may end in CR LF, and UTF-8 may begin
-with its mark. Rows are parsed by numpy over the bytes of many lines at once (parse.py); the order of rows is
-judged here.
-"""
+The reader takes no row that it would not write again in the same bytes: it compares the type and version of a group with its blocks,
+each row with the one before, and the totals with the rows. Lines may end in CR LF, and UTF-8 may begin with its mark. Rows are parsed by
+numpy over the bytes of many lines at once (parse.py); the order of rows is judged here."""
 
 import re
 from itertools import chain
@@ -28,9 +26,8 @@ CUT = "the listing does not end in its totals: it is cut off, or rds has not end
 
 
 class Listing:
-    """A listing as a source of rows. With `unfinished_ok` it may be a part of one. With `sessions` it may be several,
-    one after the other, such as of a stream that was restarted: `session` counts them, and is that of the chunk that
-    was given last.
+    """A listing as a source of rows. With `unfinished_ok` it may be a part of one. With `sessions` it may be several, one after the
+    other, such as of a stream that was restarted: `session` counts them, and is that of the chunk that was given last.
     """
 
     def __init__(self, stream: Readable, head: bytes, how: Reading = Reading()):
@@ -247,8 +244,7 @@ def first_misfit(last: Optional[Rows], rows: Rows, part: bool) -> Optional[Bad]:
     """The first row that cannot follow the one before it.
 
     Within a lock the first group begins with the block that acquired, each later one follows on the one before, and the
-    loss is that of the last block. In a part of a listing rows may be missing, but places go on.
-    """
+    loss is that of the last block. In a part of a listing rows may be missing, but places go on."""
     if last is None and not part and len(rows) and rows["what"][0] != ACQUIRED:
         missing = "rows are missing before it (--unfinished accepts a part)"
         return Bad(0, f"a listing begins with an acquisition: {missing}")

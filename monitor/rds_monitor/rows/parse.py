@@ -1,7 +1,6 @@
 """Lines of a listing as rows of the dtype ITEM, by numpy over the bytes of all lines at once.
 
-Each check marks the rows that it finds bad; the first bad row of all is told, with the first reason for it.
-"""
+Each check marks the rows that it finds bad; the first bad row of all is told, with the first reason for it."""
 
 from typing import Any, List, Optional, Tuple
 
@@ -142,8 +141,7 @@ POWERS = 10.0 ** numpy.arange(10, -1, -1)
 
 
 def _parse_places(lines: _Lines, rows: Rows) -> None:
-    """Places are decimal numbers of at most 11 digits, without zeros in front. Those of one length are read
-    together."""
+    """Places are decimal numbers of at most 11 digits, without zeros in front. Those of one length are read together."""
     starts, lengths = lines.starts[:, 1], lines.ends[:, 1] - lines.starts[:, 1]
     places, fine = numpy.zeros(lines.count), numpy.zeros(lines.count, bool)
     for size in range(max(1, int(lengths.min())), min(11, int(lengths.max())) + 1):

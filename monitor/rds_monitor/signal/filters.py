@@ -34,12 +34,10 @@ def fast_size(number: Union[float, Fraction]) -> int:
 
 
 class Passband:
-    """The part of a signal within `reach` Hz of `centre`, at `rate_out`, the least rate above `least_rate` that a
-    block allows.
+    """The part of a signal within `reach` Hz of `centre`, at `rate_out`, the least rate above `least_rate` that a block allows.
 
     Of a block's Fourier transform this part is filtered; transformed back, it is at 0 Hz and has fewer samples. A real
-    signal keeps its amplitude: cos(2 pi centre t) becomes 1.
-    """
+    signal keeps its amplitude: cos(2 pi centre t) becomes 1."""
 
     def __init__(
         self,
@@ -85,8 +83,7 @@ class Bands:
     """Passbands of one signal, by one Fourier transform per block for all of them. They have the same rates and block,
     and each row is a signal. Real signals are in double precision, complex ones in single.
 
-    Blocks overlap, since the filter reads both ends of a block as neighbours; both are left out.
-    """
+    Blocks overlap, since the filter reads both ends of a block as neighbours; both are left out."""
 
     def __init__(self, bands: Sequence[Passband], rows: int = 1):
         self.bands, self._rows = list(bands), rows

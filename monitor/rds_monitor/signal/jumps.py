@@ -33,8 +33,7 @@ class Jumps:
 
     Two streams of phasors turn slowly: the signal's square, whose phase is twice that of the carrier, and the line at
     the bit rate of the power of two samples' difference a chip apart, whose phase is that of the clock. Both are summed
-    over short segments, and the means on the two sides of each boundary are compared.
-    """
+    over short segments, and the means on the two sides of each boundary are compared."""
 
     CHIPS = 8  # of a segment: 3.4 ms
     REACH = 24  # segments on each side that are compared

@@ -28,8 +28,7 @@ class PhaseTrack:
 
     The turn is that between neighbours, over `wide` steps on each side, and at most `limit`. Without it, the
     values of `reach` steps on each side are summed. Below the coherence `least` the phase goes on as it turned
-    before. A step is answered once the `wide` steps after it are there.
-    """
+    before. A step is answered once the `wide` steps after it are there."""
 
     def __init__(self, reach: int, wide: int, limit: float, least: float):
         self._reach, self._wide, self._limit, self._least = reach, wide, limit, least

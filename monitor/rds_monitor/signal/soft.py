@@ -23,8 +23,7 @@ class SoftSymbols:
     """Makes bytes of symbols on the real axis. A symbol that was lost is 0, in the input and in the output.
 
     With the amplitude A and the noise's variance s, a value x is exp(2 A x / s) times likelier if 1 was sent than if -1 was. The
-    imaginary parts have only noise.
-    """
+    imaginary parts have only noise."""
 
     def __init__(self) -> None:
         self._symbols: Complexes = numpy.zeros(0, complex)  # that were not answered

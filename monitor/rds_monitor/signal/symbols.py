@@ -1,8 +1,7 @@
 """From RDS around 0 Hz to differentially decoded bits: chip clock, pairs of chips, carrier phase, decisions.
 
 A chip is half a biphase symbol; chips come at 2,375 a second, and the two of a symbol have opposite signs. Estimates
-are by segments of the signal, from what is before and after: there is no loop that would have to lock.
-"""
+are by segments of the signal, from what is before and after: there is no loop that would have to lock."""
 
 import math
 from typing import NamedTuple, Optional
@@ -24,8 +23,7 @@ def powers(values: Complexes) -> Reals:
 
 
 class Clocked(NamedTuple):
-    """Chips, and of each segment that was answered: by which part of their rate they are too fast, and the
-    coherence."""
+    """Chips, and of each segment that was answered: by which part of their rate they are too fast, and the coherence."""
 
     chips: Complexes
     fast: Reals

@@ -1,8 +1,6 @@
-"""The reception of a station, judged as a plugin of a monitoring system: one line, performance data, and an exit
-status.
+"""The reception of a station, judged as a plugin of a monitoring system: one line, performance data, and an exit status.
 
-What cannot be judged is UNKNOWN, whatever the reason: an error in the command line too.
-"""
+What cannot be judged is UNKNOWN, whatever the reason: an error in the command line too."""
 
 import argparse
 import io

@@ -35,7 +35,6 @@ td.text{white-space:pre-wrap;overflow-wrap:anywhere}"""
 HASH = base64.b64encode(hashlib.sha256(STYLE.encode()).digest()).decode()
 POLICY = f"default-src 'none'; style-src 'sha256-{HASH}'; base-uri 'none'; form-action 'none'"
 
-
 # By the names of stations.
 States = Dict[str, Dict[str, Any]]
 

@@ -72,8 +72,7 @@ class Arrivals:
 
     A bit cannot come before it was sent, so the read that came with the least delay counts: of the first second for the
     start, of the last ten for its corrections. At a cut the timing goes on without a jump, at a rate that makes up for
-    the difference within an hour; only bits that come later for good make the time jump, and then forward.
-    """
+    the difference within an hour; only bits that come later for good make the time jump, and then forward."""
 
     SETTLING, WINDOW, LATE, NOISE, HORIZON = 1.0, 10.0, 0.5, 0.05, 3600.0
     MOST = 1e-3  # by which a rate is off
@@ -130,8 +129,7 @@ class Arrivals:
         return max(0.0, -self._delays[-1][1]) if self._delays else 0.0
 
     def pace(self) -> Optional[BitPace]:
-        """That of the last bits, if they tell. It changed at the read that is furthest from the line through the first and the last
-        one."""
+        """That of the last bits, if they tell. It changed at the read that is furthest from the line through the first and the last one."""
         if len(self.reads) < 2 or self.reads[-1][0] - self.reads[0][0] < self.PACE_LEAST * self._speed:
             return None
         (first, begin), (last, end) = self.reads[0], self.reads[-1]
