@@ -127,19 +127,14 @@ def copies(arguments: argparse.Namespace) -> bool:
     return not arguments.shared and any(map(names.match, arguments.parallel))
 
 
-def parallel_words(arguments: argparse.Namespace, text: str) -> List[str]:
-    words = ["parallel", "--will-cite", "--workdir", "."]
-    if copies(arguments):
-        words[-1] = "..."
-        words += ["--transferfile", "{}.in", "--return", "{}.csv", "--cleanup"]
-    return [*words, *arguments.parallel, text]
-
-
 def run_jobs(
     arguments: argparse.Namespace, work: str, count: int, lock: IO[bytes]
 ) -> Iterator[Tuple[int, int, str]]:
     """The number, the status and the words of each job as it ends."""
-    words = parallel_words(arguments, job_text(arguments, rds_program()))
+    words = ["parallel", "--will-cite", "--workdir", "..." if copies(arguments) else "."]
+    if copies(arguments):
+        words += ["--transferfile", "{}.in", "--return", "{}.csv", "--cleanup"]
+    words += [*arguments.parallel, job_text(arguments, rds_program())]
     signal.signal(signal.SIGPIPE, signal.SIG_IGN)
     # rsync follows the links to the recordings.
     environment = {**os.environ, "PARALLEL_RSYNC_OPTS": "-rLDzR", "PARALLEL_SHELL": "/bin/sh"}

@@ -2,7 +2,7 @@
 
 import math
 from html import escape
-from typing import Iterator, Sequence
+from typing import Iterator, List, Sequence
 
 import numpy
 
@@ -21,11 +21,7 @@ STYLE = """
 
 
 def picture_of(
-    spectrum: Spectrum,
-    tuning: Tuning,
-    marks: Sequence[float],
-    head: Sequence[str],
-    rows: Sequence[Sequence[str]],
+    spectrum: Spectrum, tuning: Tuning, marks: List[float], head: Sequence[str], rows: Sequence[Sequence[str]]
 ) -> str:
     """`marks` are the stations' offsets from the centre, `rows` their rows of the table."""
     css = read("report.css") + STYLE
@@ -46,7 +42,10 @@ class Drawing:
     """The parts of the picture, in its own units."""
 
     def __init__(self, spectrum: Spectrum):
-        self._decibels = 10 * numpy.log10(numpy.maximum(_fewer(spectrum.power), 1e-20))
+        # Mean powers, at most a point per column of pixels.
+        power, each = spectrum.power, -(-spectrum.power.size // WIDTH)
+        means: Reals = power[: power.size // each * each].reshape(-1, each).mean(axis=1)
+        self._decibels = 10 * numpy.log10(numpy.maximum(means, 1e-20))
         self._first, last = float(spectrum.offsets[0]), float(spectrum.offsets[-1])
         self._span = last - self._first
         self._bottom = RANGE_DB * math.floor(float(self._decibels.min()) / RANGE_DB)
@@ -83,13 +82,6 @@ def _drawn(spectrum: Spectrum, marks: Sequence[float], rows: Sequence[Sequence[s
     label = f"the mean power by frequency, in dB of full scale, with {len(rows)} stations"
     shape = f'viewBox="0 0 {WIDTH} {HEIGHT + LINE * LINES + 4}" role="img" aria-label="{escape(label)}"'
     return f"<svg {shape}>{parts}</svg>"
-
-
-def _fewer(power: Reals) -> Reals:
-    """Mean powers, at most a point per column of pixels."""
-    each = -(-power.size // WIDTH)
-    means: Reals = power[: power.size // each * each].reshape(-1, each).mean(axis=1)
-    return means
 
 
 def _table(head: Sequence[str], rows: Sequence[Sequence[str]]) -> str:

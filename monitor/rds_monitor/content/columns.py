@@ -147,18 +147,14 @@ class Groups:
         valid: Array = numpy.logical_and.reduce([self.alike.valid[block - 1][rows] for block in blocks])
         return valid
 
-    def _carry(self, look: Look) -> Tuple[Array, Array]:
-        """The groups that carry a look's fields in known blocks, and which of them have valid ones."""
-        blocks = carriers(look)
-        key = look.groups, look.applications, blocks
-        if key not in self._carried:
-            rows = self.with_known(self.assigned(look.groups, look.applications), blocks)
-            self._carried[key] = rows, self.are_valid(rows, blocks)
-        return self._carried[key]
-
     def observed(self, look: Look) -> Observations:
-        """The field in the groups of its types whose blocks that carry it are known."""
-        rows, sound = self._carry(look)
+        """The field in the groups of its types whose blocks that carry it are known; sound are those whose blocks are valid."""
+        blocks = carriers(look)
+        of = look.groups, look.applications, blocks
+        if of not in self._carried:
+            rows = self.with_known(self.assigned(look.groups, look.applications), blocks)
+            self._carried[of] = rows, self.are_valid(rows, blocks)
+        rows, sound = self._carried[of]
         if look.when and rows.size:
             chosen = among(self.values(look.when, rows), tuple(look.values))
             rows, sound = rows[chosen], sound[chosen]

@@ -106,20 +106,14 @@ class Evidence:
         if not everything:
             seen = seen.where(self._are_open(seen, starts, parts, of))
             news = self._news(self.counted(seen.spread(of))) if seen.key.size else NOTHING
-        elif self._are_again(seen, starts, parts):
-            news = News(*seen.spread(of)[:3])
         else:
-            news = self.counted(seen.spread(of))
+            last = [part.last if part and part.trusted else UNKNOWN for part in parts]
+            are_again = (seen.value == numpy.repeat(last, numpy.diff(starts, append=seen.key.size))).all()
+            news = News(*seen.spread(of)[:3]) if are_again else self.counted(seen.spread(of))
         if len(self.parts) > MOST_PARTS:
             # Noise gives parts that never count: they are forgotten when there are too many.
             self.parts = {name: part for name, part in self.parts.items() if part.counted is not None}
         return news
-
-    @staticmethod
-    def _are_again(seen: Observations, starts: Array, parts: List[Optional[PartState]]) -> bool:
-        """Whether all are the trusted values of their parts again."""
-        last = [part.last if part and part.trusted else UNKNOWN for part in parts]
-        return bool((seen.value == numpy.repeat(last, numpy.diff(starts, append=seen.key.size))).all())
 
     def _are_open(
         self, seen: Observations, starts: Array, parts: List[Optional[PartState]], of: Array

@@ -3,13 +3,14 @@ import argparse
 import csv
 import sys
 import textwrap
-from typing import Dict, Iterator, List, NamedTuple
+from itertools import chain
+from typing import Dict, List, NamedTuple
 
 import numpy
 
 from ..rows.clock import Clock, clock_of, clock_options
 from ..rows.inputs import input_options, open_input
-from ..rows.items import ITEM, Rows, Source
+from ..rows.items import ITEM
 from .charset import printable
 from .decoder import ITEMS, Decoder, Event
 from .jsonl import content_line, set_utf8
@@ -60,7 +61,9 @@ def run_info(arguments: argparse.Namespace) -> int:
     source, decoder = open_input(arguments), Decoder(rbds=arguments.rbds)
     summary, writer = Summary(), csv.writer(sys.stdout, lineterminator="\n")
     names = ["time_s", "pi", "item", "value", "bit"]
-    for rows in chunks_with_end(source):
+    chunks = source.chunks()
+    # Names of columns are written, whether or not there is a row.
+    for rows in chain([next(chunks, numpy.empty(0, ITEM))], chunks):
         events, clock = decoder.feed(rows), clock_of(arguments, source)
         if arguments.csv:
             if names:
@@ -74,13 +77,6 @@ def run_info(arguments: argparse.Namespace) -> int:
     if not (arguments.csv or arguments.json):
         sys.stdout.write(summary.text(clock_of(arguments, source)))
     return 0
-
-
-def chunks_with_end(source: Source) -> Iterator[Rows]:
-    """The chunks of a source, of which an empty one is the only one if there is none."""
-    chunks = source.chunks()
-    yield next(chunks, numpy.empty(0, ITEM))
-    yield from chunks
 
 
 def row_of(event: Event, clock: Clock) -> List[str]:
@@ -114,16 +110,15 @@ class Summary:
     def text(self, clock: Clock) -> str:
         if not self._programmes:
             return "no station: no PI was received in valid blocks\n"
-        return "\n".join(self._section(pi, items, clock) for pi, items in self._programmes.items())
+        return "\n".join(section(pi, items, clock) for pi, items in self._programmes.items())
 
-    @staticmethod
-    def _section(pi: int, items: Dict[str, Last], clock: Clock) -> str:
-        width = max(len(label(item)) for item in items)
-        lines = [f"{pi:04X} {printable(items['ps'].text) if 'ps' in items else ''}".rstrip()]
-        for item, last in items.items():
-            if item != "pi":
-                utc = clock.utc(last.place)
-                since = utc[0] if utc else f"{clock.seconds(last.place):.3f} s"
-                changed = f", {last.changes} change{'s' * (last.changes != 1)}" if last.changes else ""
-                lines.append(f"  {label(item):{width}}  {printable(last.text)}  (since {since}{changed})")
-        return "\n".join(lines) + "\n"
+
+def section(pi: int, items: Dict[str, Last], clock: Clock) -> str:
+    width = max(len(label(item)) for item in items)
+    lines = [f"{pi:04X} {printable(items['ps'].text) if 'ps' in items else ''}".rstrip()]
+    for item, last in items.items():
+        if item != "pi":
+            since = [*clock.utc(last.place), f"{clock.seconds(last.place):.3f} s"][0]
+            changed = f", {last.changes} change{'s' * (last.changes != 1)}" if last.changes else ""
+            lines.append(f"  {label(item):{width}}  {printable(last.text)}  (since {since}{changed})")
+    return "\n".join(lines) + "\n"

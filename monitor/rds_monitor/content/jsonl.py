@@ -7,7 +7,7 @@ from typing import Any, Dict, Iterator, List, Optional, Tuple, Union
 
 from ..rows.clock import Clock, clock_of, clock_options
 from ..rows.inputs import describe, input_options, open_input
-from ..rows.items import ACQUIRED, GROUP, LOSS, LOST, MISSING, UNKNOWN_TYPE, Rows, Totals
+from ..rows.items import ACQUIRED, GROUP, LOSS, LOST, MISSING, UNKNOWN_TYPE, Rows
 from ..rows.listing import OFFSET_NAMES, named
 from .charset import safe_json
 from .decoder import Decoder, Event
@@ -53,8 +53,8 @@ def run_json(arguments: argparse.Namespace) -> int:
             sys.stdout.write("".join(redsea.lines(rows, clock)))
         else:
             sys.stdout.writelines(event_lines(rows, decoder.feed(rows), clock))
-    if arguments.rows:
-        sys.stdout.writelines(map(line, total_objects(source.totals)))
+    for name, value in named(source.totals) if arguments.rows and source.totals else ():
+        sys.stdout.write(line({"event": "total", "name": name, "value": value}))
     return 0
 
 
@@ -138,8 +138,3 @@ def _block_object(burst: int, info: int, kind: int, offset: int) -> Optional[Dic
     if burst:
         found["burst"] = f"{burst:07X}"
     return found
-
-
-def total_objects(totals: Optional[Totals]) -> Iterator[Dict[str, Any]]:
-    for name, value in named(totals) if totals else ():
-        yield {"event": "total", "name": name, "value": value}

@@ -77,7 +77,11 @@ class Messages:
         at, number = groups.places_of(rows)
         said, generation = _said(groups, look, rows), heard.outage[at] << 32
         if epochs:
-            own = epochs.flag(at) == _flag_of(groups, look, rows)[number]
+            # The flag that counts has to be that of the group itself, or the one of this coding.
+            flags = numpy.full(rows.size, look.coding)
+            if look.coding is None and look.flag is not None:
+                flags = groups.values(LOOKS[look.flag][0].value, rows)
+            own = epochs.flag(at) == flags[number]
             at, number, generation = at[own], number[own], (generation | epochs.number(at))[own]
         for one, start, end in zip(names.tolist(), starts.tolist(), [*starts[1:].tolist(), rows.size]):
             chosen = ((number >= start) & (number < end)).nonzero()[0] if look.message else slice(None)
@@ -98,13 +102,6 @@ class Messages:
     def _forget(self) -> None:
         """Noise begins the names of networks that do not exist: those that were never whole are forgotten."""
         self._messages = {key: message for key, message in self._messages.items() if message.was_told}
-
-
-def _flag_of(groups: Groups, look: TextLook, rows: Array) -> Array:
-    """The flag that counts has to be that of the group itself, or the one of this coding."""
-    if look.coding is not None or look.flag is None:
-        return numpy.full(rows.size, look.coding)
-    return groups.values(LOOKS[look.flag][0].value, rows)
 
 
 def _said(groups: Groups, look: TextLook, rows: Array) -> Distinct:

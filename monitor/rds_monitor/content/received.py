@@ -103,7 +103,12 @@ class Received:
 
     def _all_news(self, groups: Groups) -> Iterator[News]:
         seen = [self._seen(groups, kind) for kind in self._sifted]
-        yield self._sift(groups, joined([*seen, *self._present(groups), self._services(groups)]))
+        # The bits that groups 3A carry of TMC, by their variants.
+        services = self._seen(groups, Kind.ODA_MESSAGE)
+        aid = services.key & 0xFFFF
+        key = key_of(Kind.ODA_MESSAGE, aid, services.value >> 14)
+        services = services._replace(key=key).where(among(aid, TMC))
+        yield self._sift(groups, joined([*seen, *self._present(groups), services]))
         counted = self._evidence.news(self._seen(groups, Kind.AF), groups.of, True)
         if counted.key.size:
             yield self._frequencies.news(in_time(counted), self._everything)
@@ -153,12 +158,6 @@ class Received:
                 ones = numpy.ones(rows.size, bool)
                 key = numpy.zeros(rows.size, "i8") + key_of(Kind.CHANNEL, 0, channel)
                 yield Observations(key, rows, ones.astype("i8"), groups.alike.whole[rows], ones)
-
-    def _services(self, groups: Groups) -> Observations:
-        """The bits that groups 3A carry of TMC, by their variants."""
-        seen = self._seen(groups, Kind.ODA_MESSAGE)
-        aid = seen.key & 0xFFFF
-        return seen._replace(key=key_of(Kind.ODA_MESSAGE, aid, seen.value >> 14)).where(among(aid, TMC))
 
     def _tags(self, groups: Groups, kind: Kind, others: Array) -> News:
         """The tags of RadioText Plus that count: the same ones are of each text in turn, and are news again after other groups,

@@ -86,7 +86,7 @@ class Redsea:
         makers: Dict[str, Callable[[Object, Words], None]] = {
             "0A 0B 15B": self._tuning,
             "1A": self._labels,
-            "1B": self._number,
+            "1B": lambda found, words: self._put_number(found, "pin", words[3]),
             "2A 2B": self._text,
             "3A": self._open_data,
             "4A": self._clock,
@@ -202,9 +202,6 @@ class Redsea:
             if lists:
                 found["alt_frequencies_b"] = {key: lists[-1][of] for key, of in keys.items()}
 
-    def _number(self, found: Object, words: Words) -> None:
-        self._put_number(found, "pin", words[3])
-
     def _put_number(self, found: Object, item: str, number: int) -> None:
         """A programme item number, and its start if it has one that counts."""
         start = item_number(number)
@@ -215,7 +212,7 @@ class Redsea:
             found["prog_item_started"] = {"day": int(start[:2]), "time": start[3:]}
 
     def _labels(self, found: Object, words: Words) -> None:
-        self._number(found, words)
+        self._put_number(found, "pin", words[3])
         found["has_linkage"] = bool(words[2] & 0x8000)
         variant = words[2] >> 12 & 7
         if variant == 0:
@@ -252,7 +249,9 @@ class Redsea:
     def _channel(self, found: Object, words: Words) -> None:
         address = words[1] & 0x1F
         if f"tdc:{address}" in self._held:
-            raw = b"".join(word.to_bytes(2, "big") for word in _own(words))
+            # In version B only block 4 is the channel's.
+            own = words[3:] if words[1] & 0x800 else words[2:]
+            raw = b"".join(word.to_bytes(2, "big") for word in own)
             found["transparent_data"] = {"address": address, "raw": raw.hex(" ").upper()}
 
     def _traffic(self, found: Object, words: Words) -> None:
@@ -328,8 +327,3 @@ def _keys_of(groups: Rows) -> Array:
     valid = numpy.logical_and.reduce([groups[f"kind{block}"] == VALID for block in BLOCKS])
     keys: Array = valid * (1 << 49) | complete << 48 | second << 32 | (third << 16 | fourth) * complete
     return keys
-
-
-def _own(words: Words) -> Tuple[int, ...]:
-    """The words of a group's own: blocks 3 and 4, or in version B block 4."""
-    return words[3:] if words[1] & 0x800 else words[2:]

@@ -284,7 +284,8 @@ class Message:
             segment, values, valid = said.rows[number]
             if segment <= self._segment:
                 self._end_turn(segment == 0 and run == self._run)
-                text = self._whole(self._fresh(place))
+                earlier = self._earlier.items()
+                text = self._whole({at: pair for at, pair in earlier if self._is_fresh(pair, place)})
                 if text is not None:
                     yield begin + row, text
                     continue
@@ -448,13 +449,6 @@ class Message:
     def _is_fresh(self, pair: Pair, place: int) -> bool:
         return place - pair[3] <= TEXT_BITS if self._shape.is_text else self._turn - pair[2] <= NAME_TURNS
 
-    def _fresh(self, place: int) -> Dict[int, Pair]:
-        """The pairs of earlier turns that are not too old."""
-        earlier, least = self._earlier.items(), place - TEXT_BITS
-        if self._shape.is_text:
-            return {position: pair for position, pair in earlier if pair[3] >= least}
-        return {position: pair for position, pair in earlier if self._turn - pair[2] <= NAME_TURNS}
-
     def _whole(self, pairs: Dict[int, Pair]) -> Optional[bytes]:
         """The characters of a text whose pairs are all known and trusted. It is told then."""
         ends = [position for position, pair in pairs.items() if pair[0] in self._ends]
@@ -464,14 +458,11 @@ class Message:
             if pair is None:
                 return None
             found.append(pair)
-        if sum([grade == SINGLE for _, grade, _, _ in found]) > self._most_singles():
+        share = sum(self._recent) * RECENT
+        most = next((most for valid, most in SINGLES if share >= valid * len(self._recent)), 0)
+        if sum([grade == SINGLE for _, grade, _, _ in found]) > most:
             return None
         return self._tell(found, self._ends[found[-1][0]] if ends else UNKNOWN)
-
-    def _most_singles(self) -> int:
-        """How many pairs may be single, by the share of valid ones among those received lately."""
-        share = sum(self._recent) * RECENT
-        return next((most for valid, most in SINGLES if share >= valid * len(self._recent)), 0)
 
     def _tell(self, found: List[Pair], last: int) -> bytes:
         """Notes the pairs of the text that is told, all of which are trusted from now on."""

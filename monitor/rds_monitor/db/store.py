@@ -10,7 +10,7 @@ import sqlite3
 import time
 from contextlib import contextmanager
 from itertools import chain
-from typing import Any, Dict, Iterable, Iterator, List, NamedTuple, Optional, Sequence, Tuple
+from typing import Any, Dict, Iterable, Iterator, List, Optional, Sequence, Tuple
 
 from ..rows.clock import clock_options
 from ..rows.hours import clock_of_hour, hour_of
@@ -92,11 +92,9 @@ class SessionRows:
         return self._facts[key]
 
 
-class Recorded(NamedTuple):
-    """A session, and its minutes, events and outages."""
-
-    session: Session
-    told: Told
+# As sessions_of gives them; and a session with its minutes, events and outages.
+Chunks = Iterable[Tuple[Session, Rows]]
+Recorded = Tuple[Session, Told]
 
 
 class Store:
@@ -167,9 +165,7 @@ class Store:
     def close(self) -> None:
         self._database.close()
 
-    def add(
-        self, name: str, station: Optional[str], chunks: Iterable[Tuple[Session, Rows]], groups: bool
-    ) -> None:
+    def add(self, name: str, station: Optional[str], chunks: Chunks, groups: bool) -> None:
         """A recording, given as by `sessions_of`, under this name, in place of the one that had it."""
         try:
             sessions = self._read(chunks, groups)
@@ -187,7 +183,7 @@ class Store:
         except sqlite3.Error as error:
             raise Fault(f"the database: {error}") from None
 
-    def _read(self, chunks: Iterable[Tuple[Session, Rows]], groups: bool) -> List[Recorded]:
+    def _read(self, chunks: Chunks, groups: bool) -> List[Recorded]:
         self._database.execute("DELETE FROM temp.groups")
         found: Dict[int, Recorded] = {}
         self._database.execute("BEGIN")
@@ -195,7 +191,7 @@ class Store:
         for session, rows in chunks:
             if groups:
                 self._database.executemany(insert, group_rows(session.number, rows))
-            kept = found.setdefault(session.number, Recorded(session, Told([], [], [], [], []))).told
+            _, kept = found.setdefault(session.number, (session, Told([], [], [], [], [])))
             told = session.part.taken()
             kept.minutes.extend(told.minutes)
             kept.events.extend(told.events)

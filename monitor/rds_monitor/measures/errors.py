@@ -5,7 +5,7 @@ from typing import Any, Iterator, List, NamedTuple
 
 import numpy
 
-from ..rows.clock import clock_of_options, clock_options, number_of
+from ..rows.clock import clock_of, clock_options, number_of
 from ..rows.extent import Extent, write_table
 from ..rows.inputs import describe, input_options, open_input
 from ..rows.items import BLOCK_BITS, CORRECTED, GROUP_BITS, LOST, VALID, Rows
@@ -47,14 +47,13 @@ class Errors:
             more = max(count, 2 * len(self._table)) - len(self._table)
             self._table = numpy.concatenate([self._table, numpy.zeros((more, 4), "i8")])
 
-    def _slot(self, place: int) -> int:
-        return max(int(place / self.bits) - self._first, 0)
-
     def add(self, rows: Rows) -> None:
         groups = groups_in(rows)
         if not len(groups):
             return
-        first, after = self._slot(groups["place"][0]), self._slot(groups["place"][-1] + GROUP_BITS) + 1
+        edges = groups["place"][0], groups["place"][-1] + GROUP_BITS
+        first, after = (max(int(place / self.bits) - self._first, 0) for place in edges)
+        after += 1
         self._grow(after)
         kinds, cuts = kinds_of(groups).reshape(-1), self._cuts(groups, first, after)
         read = numpy.flatnonzero(kinds)
@@ -138,7 +137,7 @@ def options_errors(parser: argparse.ArgumentParser) -> None:
 
 
 def run_errors(arguments: argparse.Namespace) -> int:
-    clock = clock_of_options(arguments)
+    clock = clock_of(arguments)
     errors, extent = Errors(arguments.every * clock.rate), Extent(open_input(arguments))
     for rows in extent.chunks():
         errors.add(rows)

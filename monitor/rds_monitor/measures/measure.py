@@ -5,7 +5,7 @@ from typing import Any, Dict, Iterator, List, NamedTuple, Optional, Tuple
 
 import numpy
 
-from ..rows.clock import Clock, clock_of_options, clock_options, number_of
+from ..rows.clock import Clock, clock_of, clock_options, number_of
 from ..rows.extent import Extent, write_table
 from ..rows.inputs import describe, input_options, open_input
 from ..rows.items import BLOCKS, CORRECTED, GROUP, UNKNOWN_TYPE, VALID, Rows, burst_lengths
@@ -71,8 +71,7 @@ def count_of(text: str) -> int:
 def options_programmes(parser: argparse.ArgumentParser) -> None:
     describe(
         parser,
-        "Which PI codes were received and when, as CSV: stretches of groups that have one in a valid "
-        "block 1.",
+        "Which PI codes were received and when, as CSV: stretches of groups that have one in a valid block 1.",
         "rds-monitor programmes --least 10 monday.bin",
     )
     input_options(parser)
@@ -84,7 +83,7 @@ def options_programmes(parser: argparse.ArgumentParser) -> None:
 
 
 def run_programmes(arguments: argparse.Namespace) -> int:
-    clock, extent = clock_of_options(arguments), Extent(open_input(arguments))
+    clock, extent = clock_of(arguments), Extent(open_input(arguments))
     names = "begin_s end_s pi groups begin_bit end_bit".split()
     found = programmes_in(extent, Programmes(arguments.least, arguments.pause * clock.rate))
     rows = ([*clock.texts(*ends), f"{pi:04X}", count, *ends, *clock.utc(*ends)] for pi, count, *ends in found)
@@ -155,7 +154,7 @@ def options_types(parser: argparse.ArgumentParser) -> None:
 
 
 def run_types(arguments: argparse.Namespace) -> int:
-    clock, extent = clock_of_options(arguments), Extent(open_input(arguments))
+    clock, extent = clock_of(arguments), Extent(open_input(arguments))
     names = "type version groups corrected".split()
     if arguments.every is not None:
         bits = arguments.every * clock.rate
@@ -194,9 +193,8 @@ def mixes_in(extent: Extent, bits: float) -> Iterator[Tuple[float, Mix]]:
 def options_corrected(parser: argparse.ArgumentParser) -> None:
     describe(
         parser,
-        "Which blocks were corrected and how, as CSV: the group's position, type and version; the "
-        "number, offset and word of the block; the error mask, its length in bits, and when the "
-        "block began.",
+        "Which blocks were corrected and how, as CSV: the group's position, type and version; the number, offset and word of the block; "
+        "the error mask, its length in bits, and when the block began.",
         "rds-monitor corrected --burst 5 monday.bin | cut -d, -f8 | sort | uniq -c",
     )
     input_options(parser)
@@ -204,7 +202,7 @@ def options_corrected(parser: argparse.ArgumentParser) -> None:
 
 
 def run_corrected(arguments: argparse.Namespace) -> int:
-    clock, extent = clock_of_options(arguments), Extent(open_input(arguments))
+    clock, extent = clock_of(arguments), Extent(open_input(arguments))
     names = "bit type version block offset word burst burst_length time_s".split()
     rows = (row for chunk in extent.chunks() for row in corrected_in(groups_in(chunk), clock))
     return write_table([*names, *clock.names("time")], rows)
@@ -213,12 +211,12 @@ def run_corrected(arguments: argparse.Namespace) -> int:
 def corrected_in(groups: Rows, clock: Clock) -> Iterator[List[Any]]:
     at, blocks = numpy.nonzero(kinds_of(groups) == CORRECTED)
     starts, index = groups["place"][at].tolist(), type_index(groups[at]).tolist()
-    words, bursts, offsets = (
-        numpy.stack([groups[f"{name}{block}"] for block in BLOCKS], 1)[at, blocks].tolist()
+    words, masks, offsets = (
+        numpy.stack([groups[f"{name}{block}"] for block in BLOCKS], 1)[at, blocks]
         for name in ("info", "burst", "offset")
     )
-    spans, places = burst_lengths(numpy.array(bursts, "u4")).tolist(), places_of(groups)[at, blocks].tolist()
-    columns = starts, index, (blocks + 1).tolist(), offsets, words, bursts, spans, places
-    for start, kind, block, offset, word, burst, span, place in zip(*columns):
-        cells = block, OFFSET_NAMES[offset], f"{word:04X}", f"{burst:07X}", span
-        yield [start, *type_names(kind), *cells, *clock.texts(place), *clock.utc(place)]
+    columns = (blocks + 1, offsets, words, masks, burst_lengths(masks), places_of(groups)[at, blocks])
+    for start, kind, *cells in zip(starts, index, *(column.tolist() for column in columns)):
+        block, offset, word, burst, span, place = cells
+        shown = block, OFFSET_NAMES[offset], f"{word:04X}", f"{burst:07X}", span
+        yield [start, *type_names(kind), *shown, *clock.texts(place), *clock.utc(place)]

@@ -3,7 +3,7 @@
 import base64
 import math
 from collections import Counter
-from typing import Any, Dict, List, NamedTuple, Optional, Sequence, Tuple
+from typing import Any, Callable, Dict, List, NamedTuple, Optional, Sequence, Tuple
 
 import numpy
 
@@ -120,11 +120,15 @@ class TimeLine:
 
     def fewer(self, step: float, most: int = MOST_LISTED, interval: Optional[float] = None) -> "TimeLine":
         """At most some rows in each list, one per `step` seconds where there are more. Blocks are by `interval`, or else by `step`."""
+
+        def few(rows: List[Any], make: Callable[[List[Any], float], List[Any]]) -> List[Any]:
+            return rows if len(rows) <= most else make(rows, step)
+
         line, interval = TimeLine(), interval or step
         line.parts = [Counted(part.at, interval, merged(part, interval)) for part in self.parts]
-        line.sessions, line.outages = (by_step(rows, step, most) for rows in (self.sessions, self.outages))
-        line.mix, line.clock = mixed(self.mix, step, most), averaged(self.clock, step, most)
-        line.lanes = {lane: by_text(stretches, step, most) for lane, stretches in self.lanes.items()}
+        line.sessions, line.outages = few(self.sessions, by_step), few(self.outages, by_step)
+        line.mix, line.clock = few(self.mix, mixed), few(self.clock, averaged)
+        line.lanes = {lane: few(stretches, by_text) for lane, stretches in self.lanes.items()}
         counts = Counter(item for _, item, _ in self.events)
         # Items that change most are left out first.
         while sum(counts.values()) > most and len(counts) > 1:
@@ -174,10 +178,8 @@ def merged(part: Counted, step: float) -> Any:
     return numpy.add.reduceat(part.counts, numpy.arange(0, len(part.counts), every))
 
 
-def by_step(spans: List[Row], step: float, most: int) -> List[Row]:
-    """Times with sums: of more, the sums in each step. A time over several steps has its share in each."""
-    if len(spans) <= most:
-        return spans
+def by_step(spans: List[Row], step: float) -> List[Row]:
+    """The sums in each step of times with sums. A time over several steps has its share in each."""
     sums: Dict[int, Any] = {}
     for begin, end, *counts in spans:
         for slot in range(int(begin // step), max(math.ceil(end / step), int(begin // step) + 1)):
@@ -187,33 +189,22 @@ def by_step(spans: List[Row], step: float, most: int) -> List[Row]:
     return [[slot * step, slot * step + step, *row.tolist()] for slot, row in sorted(sums.items())]
 
 
-def mixed(mix: List[Row], step: float, most: int) -> List[Row]:
-    if len(mix) <= most:
-        return mix
-    sums: Dict[float, Dict[str, int]] = {}
+def mixed(mix: List[Row], step: float) -> List[Row]:
+    sums: Dict[float, "Counter[str]"] = {}
     for begin, _, counts in mix:
-        add_mix(sums.setdefault(begin // step * step, {}), counts)
+        sums.setdefault(begin // step * step, Counter()).update(counts)
     return [[begin, begin + step, counts] for begin, counts in sums.items()]
 
 
-def add_mix(sums: Dict[str, int], counts: Dict[str, int]) -> None:
-    for name, count in counts.items():
-        sums[name] = sums.get(name, 0) + count
-
-
-def averaged(clock: List[Row], step: float, most: int) -> List[Row]:
-    if len(clock) <= most:
-        return clock
+def averaged(clock: List[Row], step: float) -> List[Row]:
     found: Dict[float, List[float]] = {}
     for at, offset in clock:
         found.setdefault(at // step * step, []).append(offset)
     return [[at + step / 2, sum(offsets) / len(offsets)] for at, offsets in found.items()]
 
 
-def by_text(stretches: List[Stretch], step: float, most: int) -> List[Stretch]:
-    """Texts: of more, the one of each step, or that there are several."""
-    if len(stretches) <= most:
-        return stretches
+def by_text(stretches: List[Stretch], step: float) -> List[Stretch]:
+    """The text of each step, or that there are several."""
     texts: Dict[int, str] = {}
     for begin, end, text in stretches:
         slot = int(begin // step)

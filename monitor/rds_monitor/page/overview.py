@@ -5,9 +5,10 @@ from typing import Any, Dict, List, NamedTuple, Optional, Sequence
 import numpy
 
 from ..db.standing import Standing, standing
+from ..rows.clock import DAY
 from .line import bad_percent
 
-DAY, POINTS = 86400, 96
+POINTS = 96
 
 
 class Span(NamedTuple):

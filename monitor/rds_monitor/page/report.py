@@ -12,8 +12,8 @@ from ..content.charset import printable
 from ..content.info import label
 from ..db.parts import Session, Told, sessions_of
 from ..measures.errors import Errors
-from ..rows.clock import Clock, clock_of_options, clock_options
-from ..rows.inputs import input_options, open_input
+from ..rows.clock import Clock, clock_of, clock_options
+from ..rows.inputs import describe, input_options, open_input
 from ..rows.items import GROUP, GROUP_BITS, VALID, Fault, Misuse
 from .html import Station, page_of, told_of
 from .line import MOST_LISTED, Counted, Lanes, TimeLine, said
@@ -28,12 +28,14 @@ MOST_STORED = 43200
 
 
 def options_report(parser: argparse.ArgumentParser) -> None:
-    parser.description = (
+    describe(
+        parser,
         "A page of HTML that needs nothing else: block errors over time, outages, sessions, the group mix, the contents and their changes, "
         "the station's clock, and the totals, with zoom. Several stations come with an overview, the worst first. An input may be a database "
-        "of rds-monitor db too. It needs Debian's python3-jinja2 and libjs-d3."
+        "of rds-monitor db too. It needs Debian's python3-jinja2 and libjs-d3.",
+        "rds-monitor report --start 2026-03-29T00:30:00Z monday.bin > monday.html",
+        "rds-monitor report --into pages year.db",
     )
-    parser.epilog = "example:\n  rds-monitor report --start 2026-03-29T00:30:00Z monday.bin > monday.html\n  rds-monitor report --into pages year.db"
     input_options(parser, several=True)
     clock_options(parser)
     text = "of a database: pages by station, year and month in this folder, with each month's availability"
@@ -43,7 +45,7 @@ def options_report(parser: argparse.ArgumentParser) -> None:
 
 
 def run_report(arguments: argparse.Namespace) -> int:
-    clock = clock_of_options(arguments)
+    clock = clock_of(arguments)
     if arguments.into is not None:
         if len(arguments.input) != 1 or not is_database(arguments.input[0]):
             raise Misuse("--into is for one database")

@@ -15,8 +15,9 @@ from ..content.charset import printable
 from ..db.schema import HELD, MARK
 from ..db.standing import Availability, Standing, standing_of
 from ..rows.items import Fault
-from .line import CUT, MOST_LISTED, SEVERAL, Counted, Lanes, Said, TimeLine, add_mix, join, said
-from .overview import DAY, Span, tile_of
+from ..rows.clock import DAY
+from .line import CUT, MOST_LISTED, SEVERAL, Counted, Lanes, Said, TimeLine, join, said
+from .overview import Span, tile_of
 
 Pairs = Iterable[Tuple[int, int]]
 MAGIC = b"SQLite format 3\0"
@@ -161,9 +162,7 @@ class StoredStation:
     def tile(self) -> Dict[str, Any]:
         """By the minutes of the last day."""
         spans = []
-        query = (
-            "SELECT minute, sent, valid FROM minute_rows WHERE session = ? AND minute >= ? ORDER BY minute"
-        )
+        query = "SELECT minute, sent, valid FROM minute_rows WHERE session = ? AND minute >= ? ORDER BY 1"
         for session in self.sessions:
             if session.end > self.end - DAY:
                 first = int((self.end - DAY - session.start) / session.minute)
@@ -177,7 +176,7 @@ class StoredStation:
         """All from one time to another, which are of whole steps, with the blocks by these."""
         line = TimeLine()
         blocks_at: List[Tuple[int, ...]] = [(0, 0, 0, 0, 0, 0)]
-        mix: Dict[float, Dict[str, int]] = {}
+        mix: Dict[float, "Counter[str]"] = {}
         while self._done < len(self.sessions) and self.sessions[self._done].end <= begin:
             self._done += 1
         sessions = list(itertools.takewhile(lambda one: one.begin < end, self.sessions[self._done :]))
@@ -198,7 +197,7 @@ class StoredStation:
                     line.clock.append([at + step / 2, offset])
                     last = offset
                 for told in json.loads(f"[{mixes or ''}]"):
-                    add_mix(mix.setdefault(at, {}), told)
+                    mix.setdefault(at, Counter()).update(told)
                 for lane, least, most in zip(busy.lanes, held[::2], held[1::2]):
                     if least is not None:
                         text = self._stored.fact(least).text if least == most else SEVERAL

@@ -9,12 +9,14 @@ from typing import Any, Iterator, List, NamedTuple, Sequence, Tuple
 from urllib.parse import quote
 
 from ..content.charset import printable
+from ..rows.clock import DAY
+from ..rows.extent import replace
 from .html import Station, page_of, told_of
 from .line import MOST_LISTED, TimeLine
 from .overview import tile_of
 from .stored import Stored, StoredStation
 
-HOUR, DAY = 3600, 86400
+HOUR = 3600
 UTC = datetime.timezone.utc
 HEAD = "received, s|noise, s|down, s|unknown, s|received, %|outages|longest, s|sent|valid|valid, %".split("|")
 NAMES = "Jan Feb Mar Apr May Jun Jul Aug Sep Oct Nov Dec".split()
@@ -35,14 +37,6 @@ class Month(NamedTuple):
     sent: int
     valid: int
     valid_percent: Any
-
-
-class LinkTable(NamedTuple):
-    """A table of a page: each cell is a text and the link to a page, or none."""
-
-    caption: str
-    head: Sequence[str]
-    rows: Sequence[Sequence[Tuple[str, str]]]
 
 
 class CalendarMonth(NamedTuple):
@@ -130,7 +124,7 @@ class Folder:
             rows.append([(str(month), file), *((text, "") for text in texts)])
             whole.extend(line.fewer(DAY, MOST_LISTED // 12))
         self._years.append([(printable(station.name), links[1][1]), (str(year), ""), *cells])
-        table = LinkTable("Availability by month", ["month", *HEAD], rows)
+        table = {"caption": "Availability by month", "head": ["month", *HEAD], "rows": rows}
         return self._tell(links[1][1], station, months, whole, links=links[:1], table=table)
 
     def _tell(
@@ -139,24 +133,18 @@ class Folder:
         begin, end = months[0].begin, months[-1].next.begin
         times = begin, min(end, station.end)
         told = told_of(station.name, line, times, begin, station.held, tile_of([], times[1], None))
-        self._write(file, page_of(self._title, [told], **more))
+        replace(os.path.join(self._path, file), page_of(self._title, [told], **more))
         return told
-
-    def _write(self, name: str, text: str) -> None:
-        """A reader sees the old file or the new one."""
-        path = os.path.join(self._path, name)
-        with open(f"{path}.new", "w", encoding="utf-8", newline="") as file:
-            file.write(text)
-        os.replace(f"{path}.new", path)
 
     def close(self) -> None:
         """The pages of all stations."""
         rows = io.StringIO()
         csv.writer(rows, lineterminator="\n").writerows([Month._fields, *self._months])
-        self._write("availability.csv", rows.getvalue())
-        table = LinkTable("Received, of all time", ["station", "year", *NAMES], self._years)
+        replace(os.path.join(self._path, "availability.csv"), rows.getvalue())
+        table = {"caption": "Received, of all time", "head": ["station", "year", *NAMES], "rows": self._years}
         links = [("the same as CSV, with outages and blocks", "availability.csv")]
-        self._write("index.html", page_of(self._title, self._tiles, links=links, table=table))
+        page = page_of(self._title, self._tiles, links=links, table=table)
+        replace(os.path.join(self._path, "index.html"), page)
 
 
 def write_years(path: str, folder: str, title: str) -> int:

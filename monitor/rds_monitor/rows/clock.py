@@ -87,14 +87,10 @@ def clock_options(parser: argparse.ArgumentParser) -> None:
     group.add_argument("--rate", type=rate_of, default=RATE, metavar="BITS", help=of_rate)
 
 
-def clock_of_options(arguments: argparse.Namespace) -> Clock:
-    return Clock(arguments.start, arguments.rate)
-
-
-def clock_of(arguments: argparse.Namespace, source: Source) -> Clock:
+def clock_of(arguments: argparse.Namespace, source: Optional[Source] = None) -> Clock:
     """The clock of the options, or by default the start that the input itself says."""
-    clock = clock_of_options(arguments)
-    return clock if clock.start is not None else clock._replace(start=getattr(source, "start", None))
+    start = getattr(source, "start", None) if arguments.start is None else arguments.start
+    return Clock(start, arguments.rate)
 
 
 def milliseconds(places: Any, rate: float) -> List[str]:

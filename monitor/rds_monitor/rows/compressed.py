@@ -19,16 +19,12 @@ def zstandard(else_fault: str) -> Any:
         raise Fault(else_fault) from None
 
 
-def _zstd() -> Any:
-    fault = "the input is compressed with zstd: install python3-zstandard, or use zstd -dc"
-    return zstandard(fault).ZstdDecompressor().decompressobj()
-
-
+_NO_ZSTD = "the input is compressed with zstd: install python3-zstandard, or use zstd -dc"
 # By the first bytes: the name, and what decompresses one stream.
 _FORMATS: Dict[bytes, tuple[str, Callable[[], Any]]] = {
     b"\x1f\x8b\x08": ("gzip", lambda: zlib.decompressobj(wbits=31)),
     b"\xfd7zXZ\0": ("xz", lzma.LZMADecompressor),
-    b"\x28\xb5\x2f\xfd": ("zstd", _zstd),
+    b"\x28\xb5\x2f\xfd": ("zstd", lambda: zstandard(_NO_ZSTD).ZstdDecompressor().decompressobj()),
 }
 _ERRORS = (zlib.error, lzma.LZMAError)
 

@@ -15,6 +15,7 @@ import subprocess
 import termios
 import time
 from functools import partial
+from pathlib import Path
 from typing import Any, Callable, List, Optional, Sequence, Tuple, Union
 
 from .items import Fault, Rows, Rules, Totals, joined
@@ -138,14 +139,18 @@ class ByProgram(Pushed):
 
     def _work(self, process: "subprocess.Popen[bytes]", rest: memoryview) -> None:
         """Gives the program these bytes, and takes what it writes, until it waits for more bytes."""
+        assert process.stdin
         pause, end = FIRST_PAUSE, time.monotonic() + PATIENCE
         before: Tuple[int, int] = (0, 0)
         while True:
             rest = rest[self._write(process, rest) :]
-            unread = _unread(process)
-            waits = not rest and not unread and _sleeps(process.pid)
-            if self._read(process) or (len(rest), unread) != before:
-                before = len(rest), unread
+            # How many bytes wait in its input; and whether it waits, which it does only for input and for room in its output.
+            unread = array.array("i", [0])
+            fcntl.ioctl(process.stdin.fileno(), termios.FIONREAD, unread)
+            state = Path(f"/proc/{process.pid}/stat").read_bytes().rpartition(b") ")[2][:1]
+            waits = not rest and not unread[0] and state == b"S"
+            if self._read(process) or (len(rest), unread[0]) != before:
+                before = len(rest), unread[0]
                 pause, end = FIRST_PAUSE, time.monotonic() + PATIENCE
             elif waits:
                 # It slept before the read found nothing, so it has not more to write.
@@ -231,20 +236,6 @@ def _words(rules: Rules, gaps: Gaps, bits: Optional[int]) -> List[str]:
     words += [f"--share={loss}", f"--of={of}"] if of else [f"--loss={loss}"]
     words += [f"--gaps={','.join(f'{begin}-{end}' for begin, end in gaps)}"] if gaps else []
     return words + ([] if bits is None else [f"--bits={bits}"])
-
-
-def _unread(process: "subprocess.Popen[bytes]") -> int:
-    """How many bytes wait in its input."""
-    assert process.stdin
-    count = array.array("i", [0])
-    fcntl.ioctl(process.stdin.fileno(), termios.FIONREAD, count)
-    return count[0]
-
-
-def _sleeps(pid: int) -> bool:
-    """Whether the process waits, which it does only for input and for room in its output."""
-    with open(f"/proc/{pid}/stat", "rb") as file:
-        return file.read().rpartition(b") ")[2][:1] == b"S"
 
 
 def _status(process: "subprocess.Popen[bytes]") -> int:

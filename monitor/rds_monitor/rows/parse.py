@@ -108,12 +108,6 @@ class _Lines:
             bad[~fine if rows is None else rows[~fine]] = True
             self.faults.append((bad, reason))
 
-    def first_bad(self) -> Optional[Bad]:
-        if not self.faults:
-            return None if self.fields == 8 else Bad(self.count, f"it has {self.fields} fields in place of 8")
-        row = min(int(bad.argmax()) for bad, _ in self.faults)
-        return Bad(row, next(reason for bad, reason in self.faults if bad[row]))
-
 
 def parse(lines: bytes) -> Tuple[Rows, Optional[Bad]]:
     """The rows of whole lines, each ended by a line feed, up to the first bad one, and that one. A row of a total has
@@ -125,7 +119,10 @@ def parse(lines: bytes) -> Tuple[Rows, Optional[Bad]]:
         _parse_places(text, rows)
         _parse_groups(text, rows)
         _parse_others(text, rows)
-    bad = text.first_bad()
+    bad = None if text.fields == 8 else Bad(text.count, f"it has {text.fields} fields in place of 8")
+    if text.faults:
+        row = min(int(bad_rows.argmax()) for bad_rows, _ in text.faults)
+        bad = Bad(row, next(reason for bad_rows, reason in text.faults if bad_rows[row]))
     return (rows[: bad.row] if bad else rows), bad
 
 

@@ -11,9 +11,6 @@ from .transforms import transforms
 
 OVERLAPS = 32  # of which a block has the length
 
-# Told the spectrum of each block.
-Watcher = Callable[[Signal], None]
-
 
 def at_least(number: Union[float, Fraction]) -> int:
     """The lowest power of two that is no less."""
@@ -94,7 +91,7 @@ class Bands:
         self._kind, self._kind_out = ("f8", "c16") if one.is_real else ("c8", "c8")
         self._parts: List[Signal] = [numpy.zeros((rows, self.overlap // 2), self._kind)]
         self._size = self.overlap // 2  # of all parts
-        self.watch: Optional[Watcher] = None
+        self.watch: Optional[Callable[[Signal], None]] = None  # is told the spectrum of each block
 
     def push(self, samples: Signal) -> List[Complexes]:
         """The signals of the bands, each with the rows of these samples."""
@@ -114,7 +111,11 @@ class Bands:
         self._parts, self._size = [whole[:, at:]], self._size - at
 
     def _of_block(self, samples: Signal) -> Signal:
-        transformed = numpy.fft.rfft(samples) if self._is_real else self._circular(transforms().fft(samples))
+        transformed = (numpy.fft.rfft if self._is_real else transforms().fft)(samples)
+        if not self._is_real:
+            # A band may go on from the last bin to the first one.
+            both = [transformed, transformed[:, : self.kept]]
+            transformed = numpy.concatenate(both, axis=1, dtype="c8", casting="same_kind")
         if self.watch:
             self.watch(transformed)
         spectra = numpy.zeros((len(self.bands), self._rows, self.kept), self._kind_out)
@@ -126,12 +127,6 @@ class Bands:
         for band, signal in zip(self.bands, signals):
             band.turn(signal, self._place, inner)
         return signals
-
-    def _circular(self, transformed: Signal) -> Signal:
-        """A band may go on from the last bin to the first one."""
-        return numpy.concatenate(
-            [transformed, transformed[:, : self.kept]], axis=1, dtype="c8", casting="same_kind"
-        )
 
     def finish(self) -> List[Complexes]:
         """The signals up to the last sample."""

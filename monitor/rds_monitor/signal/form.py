@@ -12,10 +12,11 @@ import numpy
 
 from ..rows.decoders import decode, decoder_of
 from ..rows.heads import is_listing
+from ..rows.inputs import describe
 from ..rows.items import Fault
 from .pack import NAMES, SYMBOLS, Conversion, bits_of, packed_of
 from .rates import likely_rate, locked
-from .samples import Layout, Signal, StoredSamples, open_samples, wav_layout
+from .samples import Layout, Signal, StoredSamples, beginning_of, open_samples, wav_layout
 from .symbols import Bits
 
 PARTS, PART = 25, 10000  # bytes of the file that are tried
@@ -110,7 +111,7 @@ def signal_of(path: str, raw: str, is_iq: bool) -> Signal:
     layout = Layout(1, 2 if is_iq else 1, raw)
     whole = data[: len(data) // layout.frame * layout.frame]
     source = StoredSamples(io.BytesIO(whole), layout, (0, 1) if is_iq else (0,))
-    return first_of(source.blocks(), SIGNAL_BYTES)
+    return numpy.concatenate([numpy.zeros(0), *source.blocks()])
 
 
 def found_signal(bits: Bits, samples: Signal, name: str, options: str, path: str) -> Found:
@@ -133,35 +134,23 @@ def as_raw_signal(path: str) -> List[Found]:
 
 def as_file_signal(path: str) -> List[Found]:
     """MPX or IQ in a WAV or FLAC file: one of its channels, or two as I and Q."""
-    count = channels_of(path)
+    with open(path, "rb") as file:
+        if file.read(4) == b"fLaC":
+            file.seek(20)
+            # STREAMINFO has the channels less one in three bits.
+            count = (file.read(1)[0] >> 1 & 7) + 1
+        else:
+            file.seek(0)
+            count = wav_layout(file).channels
     found = []
     for channel in [*range(1, count + 1), *([None] if count == 2 else [])]:
         source = open_samples(path, raw=None, rate=None, channel=channel, is_iq=channel is None)
-        samples = first_of(source.blocks(), 10 * source.rate)
+        samples = numpy.concatenate([numpy.zeros(0), *beginning_of(source.blocks(), 10 * source.rate)])
         share, bits = locked(samples, source.rate)
         if share > 0.3:
             which = " --iq" if channel is None else f" --channel {channel}" if count > 1 else ""
             found.append(found_signal(bits, samples, f"{source.rate} samples a second", which, path))
     return found
-
-
-def channels_of(path: str) -> int:
-    with open(path, "rb") as file:
-        if file.read(4) == b"fLaC":
-            file.seek(20)
-            # STREAMINFO has the channels less one in three bits.
-            return (file.read(1)[0] >> 1 & 7) + 1
-        file.seek(0)
-        return wav_layout(file).channels
-
-
-def first_of(blocks: Iterator[Signal], wanted: int) -> Signal:
-    parts = [numpy.zeros(0)]
-    for samples in blocks:
-        parts.append(samples)
-        if sum(map(len, parts)) >= wanted:
-            break
-    return numpy.concatenate(parts)
 
 
 # ---- the command
@@ -177,8 +166,7 @@ one. MPX and IQ in raw samples are tried at the usual rates. The exit status is 
 
 
 def options_form(parser: argparse.ArgumentParser) -> None:
-    parser.description = DESCRIPTION
-    parser.epilog = "example:\n  rds-monitor form unknown.dat"
+    describe(parser, DESCRIPTION, "rds-monitor form unknown.dat")
     parser.add_argument("input", metavar="FILE")
 
 

@@ -66,11 +66,6 @@ def _checked(stream: BinaryIO, allowed: bytes, fault: str) -> Iterator[bytes]:
         yield data
 
 
-def _packed(stream: BinaryIO) -> Iterator[Bits]:
-    for data in _chunks(stream):
-        yield numpy.unpackbits(numpy.frombuffer(data, "u1"))
-
-
 def _hex(stream: BinaryIO) -> Iterator[Bits]:
     rest, fault = b"", "byte {} is 0x{:02X}, neither a hexadecimal digit nor blank"
     for data in _checked(stream, b"0123456789abcdefABCDEF" + BLANKS, fault):
@@ -134,7 +129,7 @@ def _up_to(stream: BinaryIO, length: "int | None") -> Iterator[bytes]:
 
 
 READERS: Dict[str, Callable[[BinaryIO], Iterator[Bits]]] = {
-    "packed": _packed,
+    "packed": lambda stream: (numpy.unpackbits(numpy.frombuffer(data, "u1")) for data in _chunks(stream)),
     "hex": _hex,
     "text": _text,
     "wav": _wav,
@@ -184,13 +179,11 @@ def options_pack(parser: argparse.ArgumentParser) -> None:
         "examples:\n  rds-monitor pack --from bytes bits.dat > recording.bin\n"
         "  rds-monitor pack --from f32 --invert soft.f32 | rds list"
     )
-    file, flag = {"default": "-", "metavar": "FILE"}, {"action": "store_true"}
+    file: Dict[str, Any] = {"default": "-", "metavar": "FILE"}
+    flag = {"action": "store_true"}
     forms = {"dest": "form", "required": True, "choices": sorted(NAMES), "metavar": "FORM"}
     options: Dict[str, Tuple[Dict[str, Any], str]] = {
-        "input": (
-            {"nargs": "?", "default": "-", "metavar": "INPUT"},
-            "the bits (default: - for standard input)",
-        ),
+        "input": ({**file, "nargs": "?", "metavar": "INPUT"}, "the bits (default: - for standard input)"),
         "--from": (forms, "; ".join(f"{name}: {text}" for name, text in NAMES.items())),
         "--lsb-first": (flag, "the bytes are LSB first (packed and hex)"),
         "--invert": (flag, "invert the bits"),

@@ -51,14 +51,12 @@ class PhaseTrack:
         back = numpy.exp(-1j * turn[:, None] * numpy.arange(-self._reach, self._reach + 1)) * self._near
         sums = (windows * back).sum(axis=1)
         coherence = numpy.abs(sums) / self._near.sum()
-        self._remember(turn[coherence >= self._least])
-        return Phases(self._unwrapped(numpy.angle(sums), turn, coherence), turn, coherence)
-
-    def _remember(self, turns: Reals) -> None:
-        """The mean turn of the last thousand coherent steps or so."""
+        turns = turn[coherence >= self._least]
         if turns.size:
+            # The mean turn of the last thousand coherent steps or so.
             self._seen = min(1000.0, self._seen + turns.size)
             self._usual += (float(turns.mean()) - self._usual) * min(1.0, turns.size / self._seen)
+        return Phases(self._unwrapped(numpy.angle(sums), turn, coherence), turn, coherence)
 
     def _unwrapped(self, angles: Reals, turns: Reals, coherence: Reals) -> Reals:
         phases = []

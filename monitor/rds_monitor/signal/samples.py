@@ -5,7 +5,7 @@ import os
 import struct
 import sys
 from dataclasses import dataclass
-from typing import Any, BinaryIO, Iterator, Optional, Protocol, Tuple
+from typing import Any, BinaryIO, Iterator, List, Optional, Protocol, Tuple
 
 import numpy
 from numpy.typing import NDArray
@@ -21,14 +21,8 @@ FRAMES_PER_BLOCK = 1 << 16  # of a pipe, so that what comes live is not late
 FRAMES_OF_FILE = 1 << 18
 LARGEST_SAMPLE = 1e12  # well above that of any integer form
 # Bytes per sample and full scale of each sample form, low byte first.
-FORMS = {
-    "u8": (1, 128.0),
-    "s8": (1, 128.0),
-    "s16": (2, 2.0**15),
-    "s24": (3, 2.0**31),
-    "s32": (4, 2.0**31),
-}
-FORMS.update(f32=(4, 1.0), f64=(8, 1.0))
+FORMS = {"u8": (1, 128.0), "s8": (1, 128.0), "s16": (2, 2.0**15), "s24": (3, 2.0**31)}
+FORMS.update(s32=(4, 2.0**31), f32=(4, 1.0), f64=(8, 1.0))
 RAW_FORMS = ("f32", "s16", "u8")
 # By the format code, 1 for integers and 3 for floating point, and bits per sample.
 WAV_FORMS = {(1, 8): "u8", (1, 16): "s16", (1, 24): "s24", (1, 32): "s32", (3, 32): "f32", (3, 64): "f64"}
@@ -67,6 +61,16 @@ class Layout:
         return self.channels * FORMS[self.form][0]
 
 
+def beginning_of(blocks: Iterator[Signal], wanted: float) -> List[Signal]:
+    """The blocks up to this number of samples."""
+    found: List[Signal] = []
+    for samples in blocks:
+        found.append(samples)
+        if sum(map(len, found)) >= wanted:
+            break
+    return found
+
+
 # ---- WAV
 
 
@@ -83,7 +87,9 @@ def wav_layout(stream: BinaryIO) -> Layout:
         if name == b"data":
             break
         body = _exactly(stream, min(length + length % 2, LONGEST_CHUNK))
-        _skip(stream, length + length % 2 - len(body))
+        left = length + length % 2 - len(body)
+        while left:
+            left -= len(_exactly(stream, min(left, LONGEST_CHUNK)))
         if name == b"fmt ":
             described = body
         elif name == b"ds64" and length >= 16:
@@ -102,11 +108,6 @@ def wav_layout(stream: BinaryIO) -> Layout:
         raise Fault("the WAV file has no channel")
     known = None if length in UNKNOWN_LENGTH else length
     return Layout(rate, channels, WAV_FORMS[code, width], long_length or known, centre)
-
-
-def _skip(stream: BinaryIO, length: int) -> None:
-    while length:
-        length -= len(_exactly(stream, min(length, LONGEST_CHUNK)))
 
 
 def _exactly(stream: BinaryIO, length: int) -> bytes:

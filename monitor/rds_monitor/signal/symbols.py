@@ -82,12 +82,9 @@ class ChipClock:
         numbers = numpy.arange(self._chip, math.floor(counted[-1]) + 1)
         self._chip += numbers.size
         result: Reals = numpy.interp(numbers, counted, places)
-        return self._noted(result)
-
-    def _noted(self, places: Reals) -> Reals:
-        if places.size:
-            self.begin, self.end = self.begin or float(places[0]), float(places[-1]) + self._spacing
-        return places
+        if result.size:
+            self.begin, self.end = self.begin or float(result[0]), float(result[-1]) + self._spacing
+        return result
 
     def _taken(self, places: Reals) -> Complexes:
         chips = interpolated(self._signal, places - self._first)
@@ -284,15 +281,10 @@ class DifferentialDecoder:
     """A bit is 1 if a symbol has another sign than the one before it, so that polarity does not matter."""
 
     def __init__(self) -> None:
-        self._last: NDArray[numpy.bool_] = numpy.zeros(0, bool)
+        self.last: NDArray[numpy.bool_] = numpy.zeros(0, bool)  # whether the last symbol was above 0
 
     def push(self, reals: Signal) -> Bits:
-        signs = numpy.concatenate([self._last, reals > 0])
-        self._last = signs[-1:]
+        signs = numpy.concatenate([self.last, reals > 0])
+        self.last = signs[-1:]
         bits: Bits = (signs[1:] != signs[:-1]).astype(numpy.uint8)
         return bits
-
-    @property
-    def is_above(self) -> bool:
-        """Whether the last symbol was above 0."""
-        return bool(self._last.any())

@@ -160,31 +160,24 @@ class Alarms:
         self._fit.clear()
 
     def take(
-        self,
-        changes: Sequence[Event],
-        minutes: Iterable[float],
-        ticks: Sequence[Tick],
-        timing: Timing,
-        ahead: float,
+        self, changes: List[Event], minutes: List[float], ticks: List[Tick], timing: Timing, ahead: float
     ) -> None:
         """Changes of the contents, per cent of bad blocks by minute, and clock times. UTC is `ahead` of the monotonic clock."""
         for event in changes:
             item, changed = event.item.partition(":")[0], timing.utc(event.place) - ahead
             self._changed[item] = changed
             if item in ("ps", "rt"):
-                self._take_text(item, None if event.value is None else event.text, changed)
+                # The text before it fitted until then: a dynamic PS shows its parts in turn.
+                if self._fit.get(item):
+                    self._since[item] = changed
+                text = None if event.value is None else event.text
+                self._fit[item] = text is not None and self._fitting(item, text)
+                if text != self._texts.get(item):
+                    self._since[f"{item}_stuck"], self._texts[item] = changed, text
         self._minutes.extend(minutes)
         self._offsets.extend(tick.time - timing.utc(tick.place) for tick in ticks)
         if ticks:
             self._since["ct_absent"] = timing.utc(ticks[-1].place) - ahead
-
-    def _take_text(self, name: str, text: Optional[str], changed: float) -> None:
-        """The text before it fitted until then: a dynamic PS shows its parts in turn."""
-        if self._fit.get(name):
-            self._since[name] = changed
-        self._fit[name] = text is not None and self._fitting(name, text)
-        if text != self._texts.get(name):
-            self._since[f"{name}_stuck"], self._texts[name] = changed, text
 
     def judge(self, watched: Watched, now: float) -> List[Change]:
         """The alarms that begin or end."""

@@ -80,16 +80,6 @@ class LiveSession:
         parts = [one for strengths in list(self._strengths.values())[-2:] for one in strengths]
         return mean_of(parts) if parts else Strength(None, None)
 
-    def _heard(self, told: Told) -> Told:
-        """With the strengths of the minutes."""
-        minutes = [
-            minute._replace(**mean_of(self._strengths[minute.number])._asdict())
-            if minute.number in self._strengths
-            else minute
-            for minute in told.minutes
-        ]
-        return told._replace(minutes=minutes)
-
     def tick(self, utc: float) -> None:
         """Makes rows and records of the bits so far."""
         timing = self.arrivals.timing
@@ -98,7 +88,6 @@ class LiveSession:
         if self.part is None:
             if utc - timing.start < Arrivals.SETTLING * self._speed:
                 return
-            self._key = PartKey(f"{self._station} {utc_text(timing.start)}", 0)
             self._open(0, 0)
         elif self.arrivals.is_late():
             self._jump(self.arrivals.delay())
@@ -131,6 +120,8 @@ class LiveSession:
         """A part from the position `begin` on, in the hour of the position `at`: a group may have begun in the one before."""
         timing = self.arrivals.timing
         assert timing is not None
+        if self.part is None:
+            self._key = PartKey(f"{self._station} {utc_text(timing.start)}", 0)
         hour = timing.utc(at) // HOUR * HOUR
         self._cut = timing.place(hour + HOUR)
         self.part, self._timing = Part(Clock(*timing), begin, self.contents), timing
@@ -176,20 +167,21 @@ class LiveSession:
         text = text_of(rows)
         self._size += len(text)
         self.appends.append(Append(self._path, text))
-        self._note_whole(rows)
+        whole = rows["place"][rows["what"] == GROUP][(kinds_of(groups_in(rows)) == VALID).all(axis=1)]
+        if len(whole):
+            self.whole_end = int(whole[-1]) + GROUP_BITS
         last = rows[-1:]
         end, what = int(ends_of(last)[0]), last["what"][0]
         self._row_end = None if what == LOSS else end - BLOCK_BITS if what == ACQUIRED else end
 
-    def _note_whole(self, rows: Rows) -> None:
-        whole = rows["place"][rows["what"] == GROUP][(kinds_of(groups_in(rows)) == VALID).all(axis=1)]
-        if len(whole):
-            self.whole_end = int(whole[-1]) + GROUP_BITS
-
     def _collect(self) -> bool:
-        """Hands over what the part completed, and says whether the database gets any of it."""
+        """Hands over what the part completed, with the strengths of its minutes, and says whether the database gets any of it."""
         assert self.part and self._timing
-        told = self._heard(self.part.taken())
+        told = self.part.taken()
+        for at, minute in enumerate(told.minutes):
+            if minute.number in self._strengths:
+                strength = mean_of(self._strengths[minute.number])
+                told.minutes[at] = minute._replace(**strength._asdict())
         if told.changes or told.minutes or told.ticks:
             self.told.append((told, self._timing))
         if told.minutes or told.events or told.outages:
@@ -214,7 +206,6 @@ class LiveSession:
             rows, totals = self._decoder.finish()
             self._early.append(rows)
         if self.part is None:
-            self._key = PartKey(f"{self._station} {utc_text(self.arrivals.timing.start)}", 0)
             self._open(0, 0)
         self._advance(self._taken(), self.place, utc)
         if totals and (totals.groups or totals.acquired):

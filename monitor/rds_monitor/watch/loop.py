@@ -6,20 +6,21 @@ import sqlite3
 import subprocess
 from collections import deque
 from functools import partial
-from typing import Callable, Deque, Dict, Iterable, List, Optional, Tuple, Union
+from typing import Callable, Deque, Dict, Iterable, List, Optional, Tuple
 
 from ..db.standing import availability
 from ..rows.clock import DAY
 from ..rows.decoders import NewDecoder
+from ..rows.extent import replace
 from .alarms import Alarm, Change, Trouble, words_for
 from .compress import compress
 from .live import Append
 from .metrics import metrics_text
-from .pages import replace, write_pages
+from .pages import write_pages
 from .receiver import Keeper, Launch
 from .records import WATCH, AlarmChanged, Record, Records, StateSeen, WatchBegan
 from .retention import tidy
-from .shared import SharedReceiver, Tap
+from .shared import AnyKeeper, SharedReceiver
 from .station import Station
 from .table import StationTable, Table
 from .times import Now, SteadyUtc, Times
@@ -105,21 +106,18 @@ class Watch:
         return {name: (text, max(0.0, self.utc - begin)) for name, (text, begin) in lasting}
 
     def _add(self, table: StationTable) -> Station:
-        given = self._decoder, self._times.speed, self._now.steady, self._say
-        station = Station(table, self._keeper(table), *given)
+        speed, now, receiver = self._times.speed, self._now.steady, table.receiver
+        if receiver is None:
+            keeper: AnyKeeper = Keeper(table.command, table.patience * speed, self._launch, now)
+        else:
+            shared = self._shared.get(receiver.name)
+            if shared is None or shared.table != receiver:
+                shared = self._shared[receiver.name] = SharedReceiver(receiver, speed, self._launch, now)
+            keeper = shared.tap(table.hertz, now)
+        station = Station(table, keeper, self._decoder, speed, now, self._say)
         station.records.append(WatchBegan(table.name, self.utc))
         self.stations[table.name] = station
         return station
-
-    def _keeper(self, table: StationTable) -> Union[Keeper, Tap]:
-        """Of a command of its own, or of one that it shares."""
-        speed, now, receiver = self._times.speed, self._now.steady, table.receiver
-        if receiver is None:
-            return Keeper(table.command, table.patience * speed, self._launch, now)
-        shared = self._shared.get(receiver.name)
-        if shared is None or shared.table != receiver:
-            shared = self._shared[receiver.name] = SharedReceiver(receiver, speed, self._launch, now)
-        return shared.tap(table.hertz, now)
 
     @property
     def utc(self) -> float:

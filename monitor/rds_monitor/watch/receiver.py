@@ -4,7 +4,7 @@ import fcntl
 import os
 import signal
 import subprocess
-from typing import Any, Callable, Dict, List, Optional, Sequence, Set
+from typing import Any, Callable, Dict, List, Optional, Sequence
 
 from ..rows.decoders import how_ended
 
@@ -26,6 +26,7 @@ class Process:
 
     def __init__(self, words: Sequence[str], through: Sequence[str] = ()):
         self._it = self._last = _started(words, subprocess.DEVNULL)
+        self._all = {self._it}
         if through:
             assert self._it.stdout
             try:
@@ -33,6 +34,7 @@ class Process:
             except OSError:
                 self.kill()
                 raise
+            self._all.add(self._last)
             self._it.stdout.close()
         assert self._last.stdout
         self._out = self._last.stdout
@@ -62,10 +64,6 @@ class Process:
                 if not part:
                     break
                 self._said[process.pid] = (self._said.get(process.pid, b"") + part)[-400:]
-
-    @property
-    def _all(self) -> "Set[subprocess.Popen[bytes]]":
-        return {self._it, self._last}
 
     def ended(self) -> Optional[str]:
         """The program may end the command by leaving: then it is the program that ended."""

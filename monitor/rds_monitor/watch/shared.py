@@ -2,7 +2,7 @@
 
 import re
 from collections import deque
-from typing import Any, Deque, Dict, List, Optional, Tuple
+from typing import Any, Deque, Dict, List, Optional, Tuple, Union
 
 from .. import ITSELF
 from .receiver import Keeper, Launch
@@ -110,3 +110,7 @@ class Tap:
 
     def kill(self) -> None:
         self._shared.keeper.kill()
+
+
+# A station's: of a command of its own, or of one that it shares.
+AnyKeeper = Union[Keeper, Tap]

@@ -2,7 +2,7 @@
 
 import math
 from collections import deque
-from typing import Any, Deque, Dict, List, Optional, Tuple, Union
+from typing import Any, Deque, Dict, List, Optional, Tuple
 
 from ..content.charset import printable
 from ..db.parts import MINUTE_BITS, Told
@@ -12,9 +12,8 @@ from ..rows.items import MARGIN, Fault, Rules
 from .alarms import Alarms, Change, Watched
 from .bits import Packed, bit_source
 from .live import Append, LiveSession
-from .receiver import Keeper
 from .records import AlarmChanged, Record, RunBegan, RunEnded, StateSeen, WatchBegan
-from .shared import Tap
+from .shared import AnyKeeper
 from .table import StationTable
 from .times import BitPace, Timing
 from .writer import Say
@@ -31,16 +30,10 @@ class Station:
     """All times are pairs of the monotonic clock and UTC."""
 
     def __init__(
-        self,
-        table: StationTable,
-        keeper: Union[Keeper, Tap],
-        decoder: NewDecoder,
-        speed: float,
-        now: float,
-        say: Say,
+        self, table: StationTable, keeper: AnyKeeper, decoder: NewDecoder, speed: float, now: float, say: Say
     ):
         self.table, self._decoder, self._speed, self._say = table, decoder, speed, say
-        self.keeper = keeper
+        self.name, self.keeper = table.name, keeper
         self.alarms = Alarms(table, now, speed)
         self._session: Optional[LiveSession] = None
         self._bits: Optional[Packed] = None
@@ -63,10 +56,6 @@ class Station:
         self.appends: List[Append] = []
         self.records: List[Record] = []
         self.changes: List[Change] = []
-
-    @property
-    def name(self) -> str:
-        return self.table.name
 
     def resume(self, lasting: Dict[str, Tuple[str, float]], counted: Dict[str, Any], away: float) -> None:
         """Goes on with what the last watch knew, which ended `away` seconds ago."""
@@ -104,18 +93,15 @@ class Station:
             self._counted += len(data)
             if self.table.form == "bits" and self._is_ahead(8 * self._counted, utc):
                 self._waiting.pop()
-                self._stop_ahead(steady, utc)
+                self._was_ahead = True
+                self.end_session(utc)
+                self.keeper.stop_run(steady, "gave bits faster than real time")
 
     def _is_ahead(self, place: int, utc: float) -> bool:
         """Bits up to this position had come at this time: whether none of a station come as fast."""
         assert self._session
         self._session.arrivals.take(place, utc)
         return self._session.arrivals.ahead > AHEAD * self._speed
-
-    def _stop_ahead(self, steady: float, utc: float) -> None:
-        self._was_ahead = True
-        self.end_session(utc)
-        self.keeper.stop_run(steady, "gave bits faster than real time")
 
     def _end_run(self, utc: float) -> None:
         reason = printable(self.keeper.reason)

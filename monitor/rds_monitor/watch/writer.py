@@ -5,7 +5,7 @@ import sqlite3
 import threading
 import traceback
 from collections import deque
-from typing import Callable, Deque, Dict, Iterable, Iterator, List, NamedTuple, Optional, Sequence
+from typing import Callable, Deque, Dict, Iterable, List, NamedTuple, Optional, Sequence
 
 from .live import Append
 from .records import AlarmChanged, PartOpened, Record, Records, StateSeen
@@ -98,7 +98,9 @@ class Writer:
 
     def work(self) -> bool:
         if self.news:
-            self._waiting = last_states([*self._waiting, *self._taken_news()])
+            while self.news:
+                self._waiting.append(self.news.popleft())
+            self._waiting = last_states(self._waiting)
         try:
             self._write_rows()
             self._write_records()
@@ -114,10 +116,6 @@ class Writer:
             self._say("notice", "rows are written again")
             self.fault = None
         return True
-
-    def _taken_news(self) -> Iterator[Record]:
-        while self.news:
-            yield self.news.popleft()
 
     def _write_rows(self) -> None:
         while self._rows:
