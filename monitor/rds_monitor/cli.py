@@ -1,7 +1,7 @@
 """The command `rds-monitor`: its sub-commands, their common options, exit statuses and errors.
 
-A sub-command NAME of a module has two functions there: `options_NAME(parser)` adds its options, and
-`run_NAME(arguments)` returns its exit status. Its line in `COMMANDS` is all that this file says of it."""
+A sub-command NAME of a module has two functions there: `options_NAME(parser)` adds its options, and its docstring has the description and,
+after an empty line, examples; `run_NAME(arguments)` returns its exit status. Its line in `COMMANDS` is all that this file says of it."""
 
 import argparse
 import ctypes
@@ -23,13 +23,15 @@ class Command(NamedTuple):
     summary: str
 
     def options(self, parser: argparse.ArgumentParser) -> None:
-        getattr(self._module(), f"options_{self.name}")(parser)
+        add = self.function("options")
+        if add.__doc__:
+            told, _, examples = "\n".join(map(str.strip, add.__doc__.splitlines())).partition("\n\n")
+            parser.description = told.replace("\n", " ")
+            parser.epilog = "\n  ".join(["example:", *examples.splitlines()])
+        add(parser)
 
-    def run(self, arguments: argparse.Namespace) -> int:
-        return int(getattr(self._module(), f"run_{self.name}")(arguments))
-
-    def _module(self) -> Any:
-        return importlib.import_module(f"rds_monitor.{self.module}")
+    def function(self, of: str) -> Any:
+        return getattr(importlib.import_module(f"rds_monitor.{self.module}"), f"{of}_{self.name}")
 
 
 COMMANDS = (
@@ -129,7 +131,7 @@ def main(words: Optional[Sequence[str]] = None) -> int:
         name = f"rds-monitor {command.name}"
         arguments = parser_of(command).parse_args(words[1:])
         take_hour(arguments)
-        status = command.run(arguments)
+        status = int(command.function("run")(arguments))
         sys.stdout.flush()
         return status
     except Misuse as error:

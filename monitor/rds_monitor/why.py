@@ -11,7 +11,6 @@ import numpy
 
 from .rows.blocks import REMAINDERS
 from .rows.decoders import rds_program
-from .rows.inputs import describe
 from .rows.items import Fault
 
 HEX_TEXT = re.compile(rb"[0-9A-Fa-f \t\r\n]*")
@@ -19,15 +18,13 @@ DIGITS = b"0123456789ABCDEFabcdef"
 
 
 def options_why(parser: argparse.ArgumentParser) -> None:
-    describe(
-        parser,
-        "Runs rds with the same words and the same input, and tells where the fault is: for 12 GroupText each line that is no group, for "
-        "11 HexText the first byte that is no digit, for 16 BadGaps the gap, for 4 BitsPastBytes how many bits there are. Of bits "
-        "that are not refused it tells how many blocks have offset word E of RBDS, which is not decoded. The exit status "
-        "is that of rds. RDS names the program (rds).",
-        "rds-monitor why encode < groups.txt",
-        "rds-monitor why list --hex --gaps=104-105,100-130 < recording.hex",
-    )
+    """Runs rds with the same words and the same input, and tells where the fault is: for 12 GroupText each line that is no group, for 11
+    HexText the first byte that is no digit, for 16 BadGaps the gap, for 4 BitsPastBytes how many bits there are. Of bits that are not
+    refused it tells how many blocks have offset word E of RBDS, which is not decoded. The exit status is that of rds. RDS names the program
+    (rds).
+
+    rds-monitor why encode < groups.txt
+    rds-monitor why list --hex --gaps=104-105,100-130 < recording.hex"""
     text = "the words that rds was called with"
     parser.add_argument("words", metavar="WORD", nargs=argparse.REMAINDER, help=text)
 

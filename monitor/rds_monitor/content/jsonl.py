@@ -6,7 +6,7 @@ from operator import itemgetter
 from typing import Any, Dict, Iterator, List, Optional, Tuple, Union
 
 from ..rows.clock import Clock, clock_of, clock_options
-from ..rows.inputs import describe, input_options, open_input
+from ..rows.inputs import input_options, open_input
 from ..rows.items import ACQUIRED, GROUP, LOSS, LOST, MISSING, UNKNOWN_TYPE, Rows
 from ..rows.listing import OFFSET_NAMES, named
 from .charset import safe_json
@@ -22,14 +22,12 @@ def set_utf8() -> None:
 
 
 def options_json(parser: argparse.ArgumentParser) -> None:
-    describe(
-        parser,
-        "A line of JSON per event: acquisitions and losses of sync, and changes of what the station "
-        "says. Characters that could act on a terminal are \\u escapes.",
-        "rds-monitor json monday.bin | jq 'select(.item == \"ps\")'",
-        "receiver | rds follow | rds-monitor json --unfinished",
-        "rds-monitor json --redsea monday.bin",
-    )
+    """A line of JSON per event: acquisitions and losses of sync, and changes of what the station says. Characters that could act on a
+    terminal are \\u escapes.
+
+    rds-monitor json monday.bin | jq 'select(.item == "ps")'
+    receiver | rds follow | rds-monitor json --unfinished
+    rds-monitor json --redsea monday.bin"""
     input_options(parser)
     text = "RBDS: its names of programme types, and call letters by the PI"
     parser.add_argument("--rbds", action="store_true", help=text)

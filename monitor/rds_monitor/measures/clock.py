@@ -5,7 +5,7 @@ import statistics
 from typing import Iterator, List, NamedTuple, Tuple
 
 from ..rows.clock import DAY, EPOCH_MJD, RATE, Clock, utc_text
-from ..rows.inputs import describe, input_options, open_input
+from ..rows.inputs import input_options, open_input
 from ..rows.items import GROUP, VALID, VERSION_A, Fault, Rows
 
 
@@ -113,13 +113,11 @@ def fit(ticks: List[Tick]) -> Fit:
 
 
 def options_clock(parser: argparse.ArgumentParser) -> None:
-    describe(
-        parser,
-        "Find the start and the rate of a recording by the clock time (CT) of its station. A group of "
-        "CT ends as a minute begins, within a tenth of a second.",
-        "rds-monitor clock monday.bin",
-        "rds-monitor errors $(rds-monitor clock --options monday.bin) monday.bin > errors.csv",
-    )
+    """Find the start and the rate of a recording by the clock time (CT) of its station. A group of CT ends as a minute begins, within a
+    tenth of a second.
+
+    rds-monitor clock monday.bin
+    rds-monitor errors $(rds-monitor clock --options monday.bin) monday.bin > errors.csv"""
     input_options(parser)
     form = parser.add_mutually_exclusive_group()
     of_options = "print --start TIME --rate BITS for the other commands"

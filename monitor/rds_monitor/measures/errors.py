@@ -7,7 +7,7 @@ import numpy
 
 from ..rows.clock import clock_of, clock_options, number_of
 from ..rows.extent import Extent, write_table
-from ..rows.inputs import describe, input_options, open_input
+from ..rows.inputs import input_options, open_input
 from ..rows.items import BLOCK_BITS, CORRECTED, GROUP_BITS, LOST, VALID, Rows
 from ..rows.listing import groups_in, kinds_of, places_of
 
@@ -123,13 +123,11 @@ def interval_of(text: str) -> float:
 
 
 def options_errors(parser: argparse.ArgumentParser) -> None:
-    describe(
-        parser,
-        "Block errors over time, as CSV: per interval the blocks sent by the clock, those valid, "
-        "corrected, uncorrectable (lost) and sent while there was no sync (no_sync), and how many per cent"
-        " of those sent are not valid. Blocks corrected by soft decisions have a column of their own (soft).",
-        "rds-monitor errors --every 60 --start 2026-03-29T00:30:00Z monday.bin > errors.csv",
-    )
+    """Block errors over time, as CSV: per interval the blocks sent by the clock, those valid, corrected, uncorrectable (lost) and sent
+    while there was no sync (no_sync), and how many per cent of those sent are not valid. Blocks corrected by soft decisions have a column
+    of their own (soft).
+
+    rds-monitor errors --every 60 --start 2026-03-29T00:30:00Z monday.bin > errors.csv"""
     input_options(parser)
     text = "the length of an interval (60)"
     parser.add_argument("--every", type=interval_of, default=60.0, metavar="SECONDS", help=text)

@@ -7,7 +7,7 @@ from typing import Iterator
 import numpy
 
 from ..rows.clock import Clock, clock_of, clock_options, milliseconds, utc_texts
-from ..rows.inputs import describe, input_options, open_input
+from ..rows.inputs import input_options, open_input
 from ..rows.items import BLOCKS, VALID, Misuse, Rows
 from ..rows.listing import groups_in
 
@@ -38,14 +38,12 @@ def times_of(places: Rows, clock: Clock, spy: bool) -> Iterator[bytes]:
 
 
 def options_groups(parser: argparse.ArgumentParser) -> None:
-    describe(
-        parser,
-        "The groups as lines of four hexadecimal words, for redsea, RDS Spy or rds encode. A block that"
-        " is not known is written ----. The input may be such lines too.",
-        "rds-monitor groups monday.bin | redsea --input hex",
-        "rds-monitor groups --whole monday.bin | rds encode > clean.bin",
-        "rds-monitor groups --spy --start 2026-03-29T00:30:00Z monday.bin > monday.spy",
-    )
+    """The groups as lines of four hexadecimal words, for redsea, RDS Spy or rds encode. A block that is not known is written ----. The
+    input may be such lines too.
+
+    rds-monitor groups monday.bin | redsea --input hex
+    rds-monitor groups --whole monday.bin | rds encode > clean.bin
+    rds-monitor groups --spy --start 2026-03-29T00:30:00Z monday.bin > monday.spy"""
     input_options(parser)
     parser.add_argument("--whole", action="store_true", help="leave out groups that lack a block")
     form = parser.add_mutually_exclusive_group()

@@ -7,7 +7,7 @@ import numpy
 
 from ..rows.clock import Clock, clock_of, clock_options, number_of
 from ..rows.extent import Extent, write_table
-from ..rows.inputs import describe, input_options, open_input
+from ..rows.inputs import input_options, open_input
 from ..rows.items import BLOCKS, CORRECTED, GROUP, UNKNOWN_TYPE, VALID, Rows, burst_lengths
 from ..rows.listing import OFFSET_NAMES, ends_of, groups_in, kinds_of, places_of
 from .errors import interval_of
@@ -69,11 +69,9 @@ def count_of(text: str) -> int:
 
 
 def options_programmes(parser: argparse.ArgumentParser) -> None:
-    describe(
-        parser,
-        "Which PI codes were received and when, as CSV: stretches of groups that have one in a valid block 1.",
-        "rds-monitor programmes --least 10 monday.bin",
-    )
+    """Which PI codes were received and when, as CSV: stretches of groups that have one in a valid block 1.
+
+    rds-monitor programmes --least 10 monday.bin"""
     input_options(parser)
     text = "the shortest stretch told (3): noise gives some of 1"
     parser.add_argument("--least", type=count_of, default=3, metavar="GROUPS", help=text)
@@ -141,13 +139,11 @@ class Mix:
 
 
 def options_types(parser: argparse.ArgumentParser) -> None:
-    describe(
-        parser,
-        "Which group types were received, as CSV: groups with a valid block 2, groups with a corrected "
-        "one, and when the first and the last began. Groups with an unknown type have the type -.",
-        "rds-monitor types monday.bin",
-        "rds-monitor types --every 3600 monday.bin > mix.csv",
-    )
+    """Which group types were received, as CSV: groups with a valid block 2, groups with a corrected one, and when the first and the last
+    began. Groups with an unknown type have the type -.
+
+    rds-monitor types monday.bin
+    rds-monitor types --every 3600 monday.bin > mix.csv"""
     input_options(parser)
     parser.add_argument("--every", type=interval_of, metavar="SECONDS", help="by intervals of this length")
     clock_options(parser)
@@ -191,12 +187,10 @@ def mixes_in(extent: Extent, bits: float) -> Iterator[Tuple[float, Mix]]:
 
 
 def options_corrected(parser: argparse.ArgumentParser) -> None:
-    describe(
-        parser,
-        "Which blocks were corrected and how, as CSV: the group's position, type and version; the number, offset and word of the block; "
-        "the error mask, its length in bits, and when the block began.",
-        "rds-monitor corrected --burst 5 monday.bin | cut -d, -f8 | sort | uniq -c",
-    )
+    """Which blocks were corrected and how, as CSV: the group's position, type and version; the number, offset and word of the block; the
+    error mask, its length in bits, and when the block began.
+
+    rds-monitor corrected --burst 5 monday.bin | cut -d, -f8 | sort | uniq -c"""
     input_options(parser)
     clock_options(parser)
 

@@ -9,19 +9,17 @@ import numpy
 from ..rows.clock import Clock, clock_of, clock_options, milliseconds, utc_texts
 from ..rows.extent import Extent, write_table
 from ..rows.heads import HEADER
-from ..rows.inputs import describe, input_options, open_input
+from ..rows.inputs import input_options, open_input
 from ..rows.items import Fault, Rows
 from ..rows.listing import text_of
 
 
 def options_table(parser: argparse.ArgumentParser) -> None:
-    describe(
-        parser,
-        "The rows of a recording or listing as a table, with names of columns, the time in seconds from the start of the recording, and, "
-        "with --start, UTC. In other rows than groups, type is the number of an acquired block.",
-        "rds-monitor table --start 2026-03-29T00:30:00Z monday.bin > monday.csv",
-        "rds-monitor table --parquet monday.parquet monday.bin",
-    )
+    """The rows of a recording or listing as a table, with names of columns, the time in seconds from the start of the recording, and, with
+    --start, UTC. In other rows than groups, type is the number of an acquired block.
+
+    rds-monitor table --start 2026-03-29T00:30:00Z monday.bin > monday.csv
+    rds-monitor table --parquet monday.parquet monday.bin"""
     input_options(parser)
     text = "write a Parquet file of numbers, named as in librds.ITEM"
     parser.add_argument("--parquet", metavar="FILE", help=text)

@@ -13,7 +13,7 @@ from ..content.info import label
 from ..db.parts import Session, Told, sessions_of
 from ..measures.errors import Errors
 from ..rows.clock import Clock, clock_of, clock_options
-from ..rows.inputs import describe, input_options, open_input
+from ..rows.inputs import input_options, open_input
 from ..rows.items import GROUP, GROUP_BITS, VALID, Fault, Misuse
 from .html import Station, page_of, told_of
 from .line import MOST_LISTED, Counted, Lanes, TimeLine, said
@@ -28,14 +28,12 @@ MOST_STORED = 43200
 
 
 def options_report(parser: argparse.ArgumentParser) -> None:
-    describe(
-        parser,
-        "A page of HTML that needs nothing else: block errors over time, outages, sessions, the group mix, the contents and their changes, "
-        "the station's clock, and the totals, with zoom. Several stations come with an overview, the worst first. An input may be a database "
-        "of rds-monitor db too. It needs Debian's python3-jinja2 and libjs-d3.",
-        "rds-monitor report --start 2026-03-29T00:30:00Z monday.bin > monday.html",
-        "rds-monitor report --into pages year.db",
-    )
+    """A page of HTML that needs nothing else: block errors over time, outages, sessions, the group mix, the contents and their changes, the
+    station's clock, and the totals, with zoom. Several stations come with an overview, the worst first. An input may be a database of
+    rds-monitor db too. It needs Debian's python3-jinja2 and libjs-d3.
+
+    rds-monitor report --start 2026-03-29T00:30:00Z monday.bin > monday.html
+    rds-monitor report --into pages year.db"""
     input_options(parser, several=True)
     clock_options(parser)
     text = "of a database: pages by station, year and month in this folder, with each month's availability"

@@ -33,10 +33,6 @@ def margin_of(text: str) -> int:
     return int(text)
 
 
-def describe(parser: argparse.ArgumentParser, description: str, *examples: str) -> None:
-    parser.description, parser.epilog = description, "\n  ".join(["example:", *examples])
-
-
 def input_options(parser: argparse.ArgumentParser, several: bool = False) -> None:
     """INPUT, or with `several` any number of them, and the options of a recording and of a listing."""
     how = ("*", ["-"]) if several else ("?", "-")

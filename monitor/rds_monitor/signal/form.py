@@ -12,7 +12,6 @@ import numpy
 
 from ..rows.decoders import decode, decoder_of
 from ..rows.heads import is_listing
-from ..rows.inputs import describe
 from ..rows.items import Fault
 from .pack import NAMES, SYMBOLS, Conversion, bits_of, packed_of
 from .rates import likely_rate, locked
@@ -166,7 +165,7 @@ one. MPX and IQ in raw samples are tried at the usual rates. The exit status is 
 
 
 def options_form(parser: argparse.ArgumentParser) -> None:
-    describe(parser, DESCRIPTION, "rds-monitor form unknown.dat")
+    parser.description, parser.epilog = DESCRIPTION, "example:\n  rds-monitor form unknown.dat"
     parser.add_argument("input", metavar="FILE")
 
 
