@@ -43,7 +43,6 @@ _CHARACTERS = tuple(character(code) for code in range(256))
 
 @lru_cache(4096)
 def decode(codes: bytes) -> str:
-    """The characters of codes."""
     return "".join([_CHARACTERS[code] for code in codes])
 
 

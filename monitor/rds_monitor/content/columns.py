@@ -41,7 +41,6 @@ class Columns(NamedTuple):
 
 
 def columns_of(rows: Rows) -> Columns:
-    """The columns of rows that are groups."""
     words, kinds = (numpy.stack([rows[f"{name}{block}"] for block in BLOCKS]) for name in ("info", "kind"))
     valid, known = kinds == VALID, kinds >= VALID
     code = numpy.where(known[1], words[1] >> 11, -1)
@@ -49,7 +48,6 @@ def columns_of(rows: Rows) -> Columns:
 
 
 def among(values: Array, chosen: Sequence[int]) -> Array:
-    """Which of the values are one of a few."""
     found: Array = numpy.zeros(values.size, bool)
     for one in chosen:
         found |= values == one
@@ -130,20 +128,17 @@ class Groups:
         return rows[among(self.application[rows], applications)] if applications else rows
 
     def values(self, name: str, rows: Array) -> Array:
-        """A field in these groups."""
         field = FIELDS[name]
         words = [word[rows] if of in field.blocks else word for of, word in zip(BLOCKS, self.alike.words)]
         value: Array = field.of(words)
         return value
 
     def with_known(self, rows: Array, blocks: Iterable[int]) -> Array:
-        """Those of these groups whose blocks are known."""
         for block in blocks:
             rows = rows[self.alike.known[block - 1][rows]]
         return rows
 
     def are_valid(self, rows: Array, blocks: Iterable[int]) -> Array:
-        """Whether the blocks of these groups are valid."""
         valid: Array = numpy.logical_and.reduce([self.alike.valid[block - 1][rows] for block in blocks])
         return valid
 

@@ -100,7 +100,6 @@ class Taker:
         self._tell = teller.tell
 
     def take(self, kind: int, message: int, position: int, value: int) -> None:
-        """A value that counts."""
         raise NotImplementedError
 
     def hear(self, kind: int, message: int, codes: Optional[bytes]) -> None:

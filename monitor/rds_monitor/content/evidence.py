@@ -160,7 +160,6 @@ class Evidence:
         return News(*(column[counts] for column in seen[:3]))
 
     def _news(self, counted: News) -> News:
-        """Which of the values that count are news."""
         names = counted.key[_firsts(counted.key)].tolist()
         changed = self._changed(counted)
         is_stale = any(self.parts[name].state != self.states.get(name >> POSITION_BITS, 0) for name in names)

@@ -4,7 +4,7 @@ import csv
 import sys
 import textwrap
 from itertools import chain
-from typing import Dict, List, NamedTuple
+from typing import Dict, List, Tuple
 
 import numpy
 
@@ -85,12 +85,8 @@ def row_of(event: Event, clock: Clock) -> List[str]:
     return [*shown, str(event.place), *clock.utc(event.place)]
 
 
-class Last(NamedTuple):
-    """The last value of an item, since when it holds, and how often it changed."""
-
-    text: str
-    place: int
-    changes: int
+# The last value of an item, since when it holds, and how often it changed.
+Last = Tuple[str, int, int]
 
 
 class Summary:
@@ -103,9 +99,8 @@ class Summary:
         for event in events:
             items = self._programmes.setdefault(event.pi, {})
             before = items.get(event.item)
-            if not before or before.text != event.text:
-                changes = before.changes + 1 if before else 0
-                items[event.item] = Last(event.text, event.place, changes)
+            if not before or before[0] != event.text:
+                items[event.item] = event.text, event.place, before[2] + 1 if before else 0
 
     def text(self, clock: Clock) -> str:
         if not self._programmes:
@@ -115,10 +110,10 @@ class Summary:
 
 def section(pi: int, items: Dict[str, Last], clock: Clock) -> str:
     width = max(len(label(item)) for item in items)
-    lines = [f"{pi:04X} {printable(items['ps'].text) if 'ps' in items else ''}".rstrip()]
-    for item, last in items.items():
+    lines = [f"{pi:04X} {printable(items['ps'][0]) if 'ps' in items else ''}".rstrip()]
+    for item, (text, place, changes) in items.items():
         if item != "pi":
-            since = [*clock.utc(last.place), f"{clock.seconds(last.place):.3f} s"][0]
-            changed = f", {last.changes} change{'s' * (last.changes != 1)}" if last.changes else ""
-            lines.append(f"  {label(item):{width}}  {printable(last.text)}  (since {since}{changed})")
+            since = [*clock.utc(place), f"{clock.seconds(place):.3f} s"][0]
+            changed = f", {changes} change{'s' * (changes != 1)}" if changes else ""
+            lines.append(f"  {label(item):{width}}  {printable(text)}  (since {since}{changed})")
     return "\n".join(lines) + "\n"

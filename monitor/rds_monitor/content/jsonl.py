@@ -57,7 +57,6 @@ def run_json(arguments: argparse.Namespace) -> int:
 
 
 def placed(event: str, bit: int, clock: Clock) -> Dict[str, Any]:
-    """An object's beginning: its event, bit position and time."""
     found = {"event": event, "bit": bit, "time_s": round(clock.seconds(bit), 3)}
     if clock.start is not None:
         found["time_utc"] = clock.utc(bit)[0]

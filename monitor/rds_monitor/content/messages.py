@@ -25,13 +25,6 @@ class TextChange(NamedTuple):
     codes: Optional[bytes]
 
 
-class Heard(NamedTuple):
-    """For each group the number of the outages before it, and of the run of groups without a gap that it is in."""
-
-    outage: Array
-    run: Array
-
-
 class Messages:
     """The reception of all names and texts of one programme."""
 
@@ -44,7 +37,11 @@ class Messages:
 
     def changes(self, groups: Groups, evidence: Evidence) -> Tuple[News, List[TextChange]]:
         """The changes of the flag of RadioText, and those of all texts, in these groups."""
-        heard = self._heard(groups.place)
+        # For each group the number of the outages before it, and of the run of groups without a gap that it is in.
+        step = steps_of(groups.place, self._place)
+        outage = self._outage + numpy.cumsum(step > OUTAGE_BITS)
+        run = self._run + numpy.cumsum(step != GROUP_BITS)
+        self._place, self._outage, self._run = int(groups.place[-1]), int(outage[-1]), int(run[-1])
         changed = {kind: evidence.news(groups.observed(*LOOKS[kind]), groups.of) for kind in FLAGS}
         epochs = {kind: Epochs(changed[kind], *self._flags[kind]) for kind in FLAGS}
         self._flags = {kind: epochs[kind].last for kind in FLAGS}
@@ -56,18 +53,12 @@ class Messages:
             segment = groups.values(look.segment, rows) - look.first
             rows = rows[(segment >= 0) & (segment < look.shape.segments)]
             if rows.size:
-                found += self._texts(groups, look, rows, heard, epochs[look.flag] if look.flag else None)
+                of_flag = epochs[look.flag] if look.flag else None
+                found += self._texts(groups, look, rows, outage, run, of_flag)
         return changed[Kind.RT_FLAG], found
 
-    def _heard(self, place: Array) -> Heard:
-        step = steps_of(place, self._place)
-        outage = self._outage + numpy.cumsum(step > OUTAGE_BITS)
-        run = self._run + numpy.cumsum(step != GROUP_BITS)
-        self._place, self._outage, self._run = int(place[-1]), int(outage[-1]), int(run[-1])
-        return Heard(outage, run)
-
     def _texts(
-        self, groups: Groups, look: TextLook, rows: Array, heard: Heard, epochs: Optional[Epochs]
+        self, groups: Groups, look: TextLook, rows: Array, outage: Array, run: Array, epochs: Optional[Epochs]
     ) -> Iterator[TextChange]:
         names, starts = numpy.zeros(1, "i8"), numpy.zeros(1, "i8")
         if look.message:
@@ -75,7 +66,7 @@ class Messages:
             rows = rows[numpy.argsort(message, kind="stable")]
             names, starts = numpy.unique(groups.values(look.message, rows), return_index=True)
         at, number = groups.places_of(rows)
-        said, generation = _said(groups, look, rows), heard.outage[at] << 32
+        said, generation = _said(groups, look, rows), outage[at] << 32
         if epochs:
             # The flag that counts has to be that of the group itself, or the one of this coding.
             flags = numpy.full(rows.size, look.coding)
@@ -86,7 +77,7 @@ class Messages:
         for one, start, end in zip(names.tolist(), starts.tolist(), [*starts[1:].tolist(), rows.size]):
             chosen = ((number >= start) & (number < end)).nonzero()[0] if look.message else slice(None)
             of = at[chosen]
-            rest = heard.run[of], generation[chosen], said[start:end]
+            rest = run[of], generation[chosen], said[start:end]
             part = Segments(groups.place[of], number[chosen] - start, *rest)
             coding = one if look.coding is None else look.coding
             for row, codes in self._message(look, one).take(part):
@@ -105,7 +96,6 @@ class Messages:
 
 
 def _said(groups: Groups, look: TextLook, rows: Array) -> Distinct:
-    """The segments in these groups."""
     values, valid, own = [], [], {2, *(FIELDS[look.message].blocks if look.message else ())}
     for pair in look.pairs:
         blocks = FIELDS[pair].blocks

@@ -52,7 +52,6 @@ class FrequencyNews:
         return News(key[chosen], counted.at[chosen], counted.value[chosen])
 
     def _news_of(self, head: int, pairs: Array) -> Array:
-        """Which of the pairs of one list are news."""
         turn = self.turns.get(head, 0) + numpy.cumsum(pairs == head)
         # numpy sorts words of 16 bits several times as fast.
         order = numpy.argsort(pairs.astype("u2"), kind="stable")
@@ -118,7 +117,6 @@ class Received:
 
     @staticmethod
     def _seen(groups: Groups, kind: Kind) -> Observations:
-        """The values of a kind in the groups that carry them."""
         return joined([groups.observed(look) for look in LOOKS[kind]])
 
     def _sift(self, groups: Groups, seen: Observations) -> News:

@@ -98,7 +98,6 @@ class TaggedText(Taker):
             self._tell_tags()
 
     def _tell_tags(self) -> None:
-        """Tells the pending tags that are inside the text."""
         characters = self._characters or ()
         for item, start, end in self._pending.values():
             text = "".join(characters[start:end]).strip(" \0")

@@ -48,7 +48,6 @@ class Shape(NamedTuple):
 
     @property
     def size(self) -> int:
-        """How many pairs there are."""
         return self.segments * self.pairs
 
     @property
@@ -366,7 +365,6 @@ class Message:
         self._recent.extend(flags[::-1])
 
     def _part(self, pairs: Dict[int, Pair]) -> None:
-        """Sets the pairs of this turn, and those of earlier ones."""
         self._now = {position: pair for position, pair in pairs.items() if pair[2] == self._turn}
         self._earlier = {position: pair for position, pair in pairs.items() if pair[2] != self._turn}
 

@@ -134,7 +134,6 @@ class Part:
         self._reach(int((place - SLACK) // self.bits))
 
     def _reach(self, minute: int) -> None:
-        """Completes the minutes before this one."""
         while self._at < minute:
             self._complete((self._at + 1) * self.bits)
 

@@ -42,7 +42,6 @@ class Errors:
         self._table: Rows = numpy.zeros((0, 4), "i8")
 
     def _grow(self, count: int) -> None:
-        """Makes room for this number of intervals."""
         if count > len(self._table):
             more = max(count, 2 * len(self._table)) - len(self._table)
             self._table = numpy.concatenate([self._table, numpy.zeros((more, 4), "i8")])
@@ -84,7 +83,6 @@ class Errors:
         return row
 
     def intervals(self, begin: int, end: int) -> Iterator[Interval]:
-        """The intervals of an extent."""
         counter = IntervalCounter(self, begin)
         while counter.at * self.bits < end:
             yield counter.upto(end)

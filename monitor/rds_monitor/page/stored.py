@@ -43,13 +43,6 @@ def is_database(path: str) -> bool:
         return False
 
 
-class Busy(NamedTuple):
-    """Columns of minutes whose item changes often, and the facts of all items that do."""
-
-    lanes: List[str]
-    facts: List[int]
-
-
 class StoredSession(NamedTuple):
     """A session, or an hour of one, from begin to end in seconds since 1970, or of the station if no start is known."""
 
@@ -181,15 +174,15 @@ class StoredStation:
             self._done += 1
         sessions = list(itertools.takewhile(lambda one: one.begin < end, self.sessions[self._done :]))
         numbers = json.dumps([session.number for session in sessions])
-        busy = self._busy(line, numbers, step)
+        lanes, facts = self._busy(line, numbers, step)
         outages = self._rows_of(OUTAGES, numbers)
-        events = self._rows_of(EVENTS, numbers, json.dumps(busy.facts))
+        events = self._rows_of(EVENTS, numbers, json.dumps(facts))
         for session in sessions:
             if session.recording != self._run:
                 self._lanes.end(self._heard)
             low, high, sent, valid = max(begin, session.begin), min(end, session.end), 0, 0
             last: Optional[float] = None
-            for at, blocks, more, offset, mixes, *held in self._slots(session, begin, end, step, busy.lanes):
+            for at, blocks, more, offset, mixes, *held in self._slots(session, begin, end, step, lanes):
                 blocks_at.append((int((at - begin) // step), *blocks))
                 sent, valid = sent + blocks[0], valid + blocks[1]
                 line.more += more
@@ -198,7 +191,7 @@ class StoredStation:
                     last = offset
                 for told in json.loads(f"[{mixes or ''}]"):
                     mix.setdefault(at, Counter()).update(told)
-                for lane, least, most in zip(busy.lanes, held[::2], held[1::2]):
+                for lane, least, most in zip(lanes, held[::2], held[1::2]):
                     if least is not None:
                         text = self._stored.fact(least).text if least == most else SEVERAL
                         one = max(at, low), min(at + step, high), text
@@ -218,7 +211,7 @@ class StoredStation:
         line.mix = [[at, at + step, found] for at, found in sorted(mix.items())]
         line.lanes = {**self._lanes.taken(end), **line.lanes}
         if sessions:
-            self._hear_last(sessions[-1], end, busy.lanes)
+            self._hear_last(sessions[-1], end, lanes)
         return line
 
     def _rows_of(self, query: str, *given: str) -> Dict[int, List[Tuple[int, int]]]:
@@ -228,8 +221,9 @@ class StoredStation:
             found.setdefault(session, []).append((pair[0], pair[1]))
         return found
 
-    def _busy(self, line: TimeLine, numbers: str, step: int) -> Busy:
-        """The items that change too often to be listed. Their texts at the ends of minutes are looked at, if minutes have them."""
+    def _busy(self, line: TimeLine, numbers: str, step: int) -> Tuple[List[str], List[int]]:
+        """Of items that change too often to be listed the columns of minutes, whose texts at the ends of minutes are looked at, and the
+        facts."""
         counts: "Counter[str]" = Counter()
         facts: Dict[str, List[int]] = {}
         for fact, count in self._stored.rows(COUNTS_OF_FACTS, numbers) if step >= 3600 else ():
@@ -241,7 +235,7 @@ class StoredStation:
         lanes = [item.lower() for item in items if item in ("PS", "RT")]
         for lane in lanes:
             self._lanes.drop(lane.upper())
-        return Busy(lanes, [fact for item in items for fact in facts[item]])
+        return lanes, [fact for item in items for fact in facts[item]]
 
     def _hear_last(self, session: StoredSession, end: float, lanes: Sequence[str]) -> None:
         """What the last minute says that has groups: not each change is stored. Busy items go on in the next line."""

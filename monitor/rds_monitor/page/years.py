@@ -62,7 +62,6 @@ class CalendarMonth(NamedTuple):
 
 
 def months_of(begin: float, end: float) -> Iterator[CalendarMonth]:
-    """Those of an extent."""
     first = datetime.datetime.fromtimestamp(begin, UTC)
     month = CalendarMonth(first.year, first.month)
     while month.begin < end:
@@ -137,7 +136,6 @@ class Folder:
         return told
 
     def close(self) -> None:
-        """The pages of all stations."""
         rows = io.StringIO()
         csv.writer(rows, lineterminator="\n").writerows([Month._fields, *self._months])
         replace(os.path.join(self._path, "availability.csv"), rows.getvalue())

@@ -36,11 +36,9 @@ class BlockCounter:
         self.bits += bits.size
         bits = numpy.concatenate([self._rest, bits])
         self._rest = bits[-self.KEPT :]
-        if bits.size > self.KEPT:
-            self._count(bits)
-
-    def _count(self, bits: NDArray[numpy.uint8]) -> None:
-        """The windows, but for those too near to either end, that are such blocks."""
+        if bits.size <= self.KEPT:
+            return
+        # The windows, but for those too near to either end, that are such blocks.
         windows = sliding_window_view(bits, BLOCK_BITS)
         numbers = NUMBERS[numpy.bitwise_xor.reduce(windows * self._columns, axis=1)]
         before, after = numbers[:-BLOCK_BITS], numbers[BLOCK_BITS:]

@@ -28,7 +28,6 @@ class Clock(NamedTuple):
         return place / self.rate
 
     def texts(self, *places: float, digits: int = 3) -> List[str]:
-        """The same as text."""
         return [f"{place / self.rate:.{digits}f}" for place in places]
 
     def names(self, *prefixes: str) -> List[str]:
@@ -36,7 +35,6 @@ class Clock(NamedTuple):
         return [f"{prefix}_utc" for prefix in prefixes] if self.start is not None else []
 
     def utc(self, *places: float) -> List[str]:
-        """UTC columns."""
         return [] if self.start is None else [utc_text(self.start + place / self.rate) for place in places]
 
 
@@ -47,13 +45,11 @@ def utc_text(seconds: float) -> str:
 
 
 def utc_texts(seconds: Rows) -> List[str]:
-    """The same of many times."""
     stamps = (seconds * 1000 + 0.5).astype("i8").astype("M8[ms]")
     return [f"{stamp}Z" for stamp in numpy.datetime_as_string(stamps).tolist()]
 
 
 def start_of(text: str) -> float:
-    """The value of --start."""
     match = re.fullmatch(r"\d{4}-\d\d-\d\dT\d\d:\d\d:\d\d(\.\d{1,6})?Z", text)
     try:
         whole = datetime.datetime.strptime(text[:19], "%Y-%m-%dT%H:%M:%S") if match else None

@@ -229,7 +229,6 @@ class ByProgram(Pushed):
 
 
 def _words(rules: Rules, gaps: Gaps, bits: Optional[int]) -> List[str]:
-    """Options of rds."""
     burst, reach, loss, of, margin = rules
     words = ["--soft", f"--margin={margin}"] if margin else [f"--burst={burst}"]
     words += [f"--reach={reach}"]
@@ -269,7 +268,6 @@ CURE = "install python3-librds or rds, or name librds.so.0 in RDS_LIBRARY or the
 
 
 def library() -> Any:
-    """The module librds."""
     return importlib.import_module("librds")
 
 
@@ -319,7 +317,6 @@ def _said(path: str, *words: str) -> bytes:
 
 
 def decode(data: bytes) -> Tuple[Rows, Totals]:
-    """The rows and the totals of packed bits."""
     decoder = decoder_of()[0]()
     rows = decoder.push(data)
     last, totals = decoder.finish()

@@ -79,7 +79,6 @@ class GroupLines:
         self.length, self.totals = self._place, counted
 
     def _take(self, words: List[int], time: Optional[float], found: List[Tuple[int, ...]]) -> None:
-        """Adds the rows of a group."""
         if time is not None:
             self.start = time if self.start is None else self.start
             place = round((time - self.start) * RATE)

@@ -41,7 +41,6 @@ def chosen(rows: Rows, which: Any) -> Rows:
 
 
 def joined(parts: Sequence[Rows]) -> Rows:
-    """Rows one after the other."""
     found: Rows = numpy.concatenate([rows.view(_BYTES) for rows in parts]).view(ITEM)
     return found
 

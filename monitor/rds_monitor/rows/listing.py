@@ -294,7 +294,6 @@ def block_texts(rows: Rows, block: int) -> List[str]:
 
 
 def text_of(rows: Rows) -> bytes:
-    """The lines of rows."""
     lines = []
     fields = (rows[name].tolist() for name in ("what", "place", "number", "version", "conflict"))
     blocks = (block_texts(rows, block) for block in BLOCKS)

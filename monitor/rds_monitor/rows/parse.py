@@ -97,7 +97,6 @@ class _Lines:
         return self.windows(at, 8).view("<u8").reshape(at.shape)
 
     def has(self, at: Array, text: bytes) -> Bools:
-        """Whether this text is at these places."""
         same: Bools = (self.windows(at, len(text)) == numpy.frombuffer(text, "u1")).all(axis=1)
         return same
 

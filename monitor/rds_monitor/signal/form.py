@@ -43,7 +43,6 @@ class Found(NamedTuple):
 
 
 def complete(parts: Iterator[Bits]) -> int:
-    """The complete groups of bits."""
     data = b"".join(packed for packed, _ in packed_of(parts))
     return decode(data)[1].complete
 
@@ -66,7 +65,6 @@ def parts_of(path: str, start: int) -> bytes:
 
 
 def as_bits(path: str, data: bytes, forms: Tuple[str, ...]) -> List[Found]:
-    """The forms of bits that give groups."""
     found = []
     for form in forms:
         for changes in TRIED:

@@ -244,7 +244,6 @@ class Capture:
         return self._bits(self._channels.push(samples[None]) if self._channels else [samples[None]])
 
     def finish(self) -> List[Bits]:
-        """The bits of the last samples, which waited for more."""
         rest = self._channels.finish() if self._channels else []
         before = self._bits(rest) if rest else [numpy.zeros(0, "u1")] * len(self.receivers)
         parts = zip(before, self.receivers)

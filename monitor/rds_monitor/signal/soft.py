@@ -41,7 +41,6 @@ class SoftSymbols:
         return self._answered(max(0, last - AMPLITUDE_REACH))
 
     def finish(self) -> Bits:
-        """The bytes of the last symbols, which waited for more."""
         due = self._symbols.size
         return self.push(numpy.zeros((AMPLITUDE_REACH + 1) * Carrier.SYMBOLS_PER_SEGMENT, complex))[:due]
 

@@ -246,7 +246,6 @@ class SymbolChain:
         return self._of_chips(self._clock.push(signal))
 
     def finish(self) -> Symbols:
-        """The symbols of the last samples, which waited for more."""
         parts = [self._of_chips(self._clock.finish())]
         for found in (self._carrier.push(self._pairing.finish()), self._carrier.finish()):
             parts.append(self._of_symbols(found))

@@ -45,11 +45,8 @@ class SharedReceiver:
             self._rest = b""
             for tap in self._taps.values():
                 tap.waiting.append(None)
-        elif data:
-            self._share(self._rest + data)
-
-    def _share(self, data: bytes) -> None:
-        *lines, self._rest = data.split(b"\n")
+            return
+        *lines, self._rest = (self._rest + data).split(b"\n")
         found: Dict[int, List[bytes]] = {}
         for line in lines:
             of = FREQUENCY.match(line)

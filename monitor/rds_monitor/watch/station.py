@@ -73,7 +73,6 @@ class Station:
     # ---- bytes
 
     def poll(self, steady: float, utc: float) -> None:
-        """Reads the bytes that came."""
         data, self._ahead = self.keeper.read(steady), utc - steady
         if self.keeper.starts != self._starts:
             self._starts = self.keeper.starts

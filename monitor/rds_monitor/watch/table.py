@@ -330,7 +330,6 @@ def _tuned(stations: Stations, receivers: Receivers) -> Stations:
 
 
 def _received(stations: Iterable[StationTable], receivers: Receivers) -> Stations:
-    """With the receivers of these names."""
     return tuple(replace(one, receiver=one.receiver and receivers[one.receiver.name]) for one in stations)
 
 
