@@ -65,9 +65,6 @@ def options_batch(parser: argparse.ArgumentParser) -> None:
     parser.add_argument("parallel", nargs=argparse.REMAINDER, metavar="OPTION", help=text)
 
 
-# ---- folders
-
-
 def locked(folder: str, wait: bool) -> IO[bytes]:
     """The lock of a folder of listings. It goes when the last process that has it ends, however it ends."""
     file = open(os.path.join(folder, LOCK), "ab")
@@ -98,9 +95,6 @@ def recordings_of(folder: str, listings: str, suffix: str) -> List[Job]:
 def told(path: str) -> str:
     """A name on one line of a terminal."""
     return path if path.isprintable() else repr(path)
-
-
-# ---- jobs
 
 
 def job_text(arguments: argparse.Namespace, program: str) -> str:
@@ -174,9 +168,6 @@ def fault_of(made: str, status: int, said: str) -> Optional[str]:
 def has_station(made: str) -> bool:
     match = COMPLETE.search(end_of(made))
     return match is not None and int(match[1]) >= LEAST
-
-
-# ---- the command
 
 
 class BatchRun:

@@ -130,8 +130,6 @@ def seen(station: TunedStation, bits: KeptBits) -> StationSeen:
     return StationSeen(station.frequency, report["level_dbfs"], report["snr_db"], *texts)
 
 
-# ---- the table
-
 HEAD = ("frequency", "level dBFS", "SNR dB", "PI", "PS")
 
 

@@ -63,9 +63,6 @@ def placed(event: str, bit: int, clock: Clock) -> Dict[str, Any]:
     return found
 
 
-# ---- events
-
-
 def line(value: Dict[str, Any]) -> str:
     return safe_json(value) + "\n"
 
@@ -105,9 +102,6 @@ def _sync_object(what: int, place: int, number: int, clock: Clock) -> Dict[str, 
     if what == ACQUIRED:
         return {**placed("acquired", place, clock), "number": number}
     return placed("lost", place, clock)
-
-
-# ---- rows
 
 
 def row_objects(rows: Rows, clock: Clock) -> Iterator[Dict[str, Any]]:

@@ -246,9 +246,6 @@ def group_rows(session: int, rows: Rows) -> Iterable[Sequence[Any]]:
     return ((session, *pair) for pair in zip(*columns))
 
 
-# ---- the command
-
-
 def options_db(parser: argparse.ArgumentParser) -> None:
     parser.description = (
         "Add recordings to an SQLite database, which is made if need be: a row per minute, events of the "

@@ -109,9 +109,6 @@ def fit(ticks: List[Tick]) -> Fit:
     return Fit(ticks, stretches, Clock(start, rate), 2 * error / RATE * 1e6)
 
 
-# ---- the command
-
-
 def options_clock(parser: argparse.ArgumentParser) -> None:
     """Find the start and the rate of a recording by the clock time (CT) of its station. A group of CT ends as a minute begins, within a
     tenth of a second.

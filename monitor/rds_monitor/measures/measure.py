@@ -12,8 +12,6 @@ from ..rows.items import BLOCKS, CORRECTED, GROUP, UNKNOWN_TYPE, VALID, Rows, bu
 from ..rows.listing import OFFSET_NAMES, ends_of, groups_in, kinds_of, places_of
 from .errors import interval_of
 
-# ---- PI codes
-
 
 class Stretch(NamedTuple):
     """A stretch of groups with one PI code in a valid block 1."""
@@ -93,8 +91,6 @@ def programmes_in(extent: Extent, programmes: Programmes) -> Iterator[Stretch]:
         yield from programmes.add(rows)
     yield from programmes.close()
 
-
-# ---- group types
 
 TYPES = 17 * 8
 
@@ -181,9 +177,6 @@ def mixes_in(extent: Extent, bits: float) -> Iterator[Tuple[float, Mix]]:
                 at, mix = int(slots[first]), Mix()
             mix.add(groups[first:after])
     yield at * bits, mix
-
-
-# ---- corrected blocks
 
 
 def options_corrected(parser: argparse.ArgumentParser) -> None:

@@ -167,9 +167,6 @@ class TimeLine:
         return {**told, "texts": list(texts)}
 
 
-# ---- one row per step
-
-
 def merged(part: Counted, step: float) -> Any:
     """The counts by longer intervals, of a whole number of its own."""
     every = round(step / part.step)

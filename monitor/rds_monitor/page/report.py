@@ -55,9 +55,6 @@ def run_report(arguments: argparse.Namespace) -> int:
     return 0
 
 
-# ---- what is told of an input
-
-
 def stations_of(path: str, arguments: argparse.Namespace, clock: Clock) -> List[Station]:
     """The stations of an input as the page shows them: one, or those of a database."""
     if is_database(path):

@@ -121,8 +121,6 @@ class ByProgram(Pushed):
         process.stderr.close()
         return rows, totals
 
-    # ---- the process
-
     def _start(self) -> "subprocess.Popen[bytes]":
         pipe, words = subprocess.PIPE, ["/bin/sh", "-c", SHIELD, self._program, *self._words]
         try:
@@ -208,8 +206,6 @@ class ByProgram(Pushed):
         _status(process)
         process.stdout.close()
 
-    # ---- its text
-
     def _taken(self) -> Rows:
         """The rows of the whole lines so far, but those of totals."""
         end = self._text.find(b"total,")
@@ -259,8 +255,6 @@ def _signal_name(number: int) -> str:
     except ValueError:
         return f"signal {number}"
 
-
-# ---- which one
 
 StreamDecoder = Union[ByLibrary, ByProgram]
 NewDecoder = Callable[..., StreamDecoder]

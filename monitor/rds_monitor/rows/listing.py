@@ -78,8 +78,6 @@ class Listing:
         text = line[:80].decode("ascii", "backslashreplace")
         raise Fault(f"row {number}: {bad.reason}: {text!r}") from None
 
-    # ---- lines
-
     def _lines(self) -> Iterator[bytes]:
         """The text in pieces of whole lines, each ended by a line feed alone."""
         rest, mark = b"", b"\xef\xbb\xbf"
@@ -99,8 +97,6 @@ class Listing:
             yield rest + b"\n"
         elif rest and not self.is_part:
             raise Fault(CUT)
-
-    # ---- what follows what
 
     def _judged(self, lines: bytes, rows: Rows) -> Iterator[Rows]:
         """The rows of some lines up to where one does not fit. Runs of rows with and without totals come in turn."""
@@ -275,8 +271,6 @@ def first_misfit(last: Optional[Rows], rows: Rows, part: bool) -> Optional[Bad]:
         reason = "its place goes back: rows are out of order"
     return Bad(at + (last is None), reason)
 
-
-# ---- writing
 
 OFFSET_NAMES = ("", "A", "B", "C", "Cx", "D")
 VERSION_NAMES = ("", "A", "B", "?")

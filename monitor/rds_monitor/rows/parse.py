@@ -28,9 +28,6 @@ class Bad(Exception):
         self.row, self.reason = row, reason
 
 
-# ---- tables
-
-
 def _number(text: bytes) -> Any:
     """Up to 8 bytes as they are in a word, the first one lowest."""
     return numpy.uint64(int.from_bytes(text, "little"))
@@ -62,9 +59,6 @@ def read_pattern(rows: Rows) -> Array:
     for block, bit in ((2, 4), (3, 2), (4, 1)):
         pattern |= (rows[f"kind{block}"] > 0) * numpy.uint8(bit)
     return pattern
-
-
-# ---- fields
 
 
 class _Lines:

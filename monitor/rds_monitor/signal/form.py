@@ -47,9 +47,6 @@ def complete(parts: Iterator[Bits]) -> int:
     return decode(data)[1].complete
 
 
-# ---- bits
-
-
 def parts_of(path: str, start: int) -> bytes:
     """Parts from all of the file, after its header; they begin at multiples of 16 bytes, so that no number is cut."""
     with open(path, "rb") as file:
@@ -95,9 +92,6 @@ def as_lines(path: str, data: bytes) -> List[Found]:
     keep = "tr -d '\\r' | grep -E '^([[:blank:]]*[[:xdigit:]]){16}[[:blank:]]*$' | rds encode"
     command = f"sed 's/@.*//' {shlex.quote(path)} | {keep}"
     return [Found(len(lines), "lines of hexadecimal words", command)]
-
-
-# ---- signals
 
 
 def signal_of(path: str, raw: str, is_iq: bool) -> Signal:
@@ -149,8 +143,6 @@ def as_file_signal(path: str) -> List[Found]:
             found.append(found_signal(bits, samples, f"{source.rate} samples a second", which, path))
     return found
 
-
-# ---- the command
 
 DESCRIPTION = """\
 Identifies the format of a file, and prints the command that converts it to packed bits, as rds reads them.

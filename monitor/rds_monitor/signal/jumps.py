@@ -9,7 +9,6 @@ from numpy.lib.stride_tricks import sliding_window_view
 from .samples import Complexes, Reals, Signal
 from .symbols import CHIP_RATE, TINY, powers
 
-
 # The mean phasors of the segments before and after each boundary, the evidence that their phases differ, and how far the phasors had
 # turned at each segment, which was undone.
 Sides = Tuple[Complexes, Complexes, Reals, Reals]

@@ -52,9 +52,6 @@ def _chunks(stream: BinaryIO) -> Iterator[bytes]:
         yield data
 
 
-# ---- bits of each form
-
-
 def _checked(stream: BinaryIO, allowed: bytes, fault: str) -> Iterator[bytes]:
     """Chunks of bytes that are all allowed; the fault names the place and the value of the first other one."""
     read = 0
@@ -164,8 +161,6 @@ def packed_of(parts: Iterator[Bits]) -> Iterator[Tuple[bytes, int]]:
         rest = rest[whole:]
     yield numpy.packbits(rest).tobytes(), rest.size
 
-
-# ---- the command
 
 DESCRIPTION = """\
 Converts bits and samples to packed bits, MSB first, as rds reads them.

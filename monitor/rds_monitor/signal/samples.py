@@ -71,9 +71,6 @@ def beginning_of(blocks: Iterator[Signal], wanted: float) -> List[Signal]:
     return found
 
 
-# ---- WAV
-
-
 def wav_layout(stream: BinaryIO) -> Layout:
     """Reads a WAV header up to the first sample."""
     kind, _, wave = struct.unpack("<4sI4s", _exactly(stream, 12))
@@ -115,9 +112,6 @@ def _exactly(stream: BinaryIO, length: int) -> bytes:
     if len(data) < length:
         raise Fault("the WAV file ends within its header")
     return data
-
-
-# ---- samples as numbers
 
 
 def numbers(data: bytes, form: str, kind: str = "f8") -> Reals:

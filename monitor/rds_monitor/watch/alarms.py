@@ -152,8 +152,6 @@ class Alarms:
         self._minutes.extend(counted.get("minutes", ()))
         self._offsets.extend(counted.get("offsets", ()))
 
-    # ---- observations
-
     def begin_session(self, now: float) -> None:
         self._sessions.append(now)
         self._unheard = self._unpaced = 0.0
@@ -242,8 +240,6 @@ class Alarms:
         if begins or all(value < RECOVERED * limits.errors_percent for value in last):
             text = f"{sum(last) / count:.1f} % of the blocks bad in {count} min"
             self._judge("errors", Trouble(self._now, text) if begins else None)
-
-    # ---- contents
 
     def _hold(self, passed: float, *names: str) -> None:
         """Nothing can be said of the seconds that passed."""

@@ -34,9 +34,6 @@ NAMES_FOR = 60.0
 PAUSE = 5.0
 
 
-# ---- reception
-
-
 class Reception:
     """What the rows of one session tell. `begin` and `end` are the positions of the judged part."""
 
@@ -125,9 +122,6 @@ def _add_last(reception: Reception, kept: List[Rows], source: Source, last: floa
         # The group that the first second cuts is left out whole.
         reception.begin = int(begins[0])
     reception.add(rows)
-
-
-# ---- opening
 
 
 def open_end(paths: Sequence[str], last: Optional[float], arguments: argparse.Namespace) -> Source:
@@ -219,9 +213,6 @@ class _Chain:
         return data
 
 
-# ---- judging
-
-
 def seen_in(reception: Reception, quiet: float, rate: float) -> Seen:
     """`quiet` is how many seconds ago the file was written to."""
     if quiet >= PAUSE:
@@ -241,9 +232,6 @@ def report(status: int, text: str, data: str = "") -> int:
     line = f"RDS {WORDS[status]} - {shown}" + (f" | {data}" if data else "") + "\n"
     sys.stdout.buffer.write(line.encode("utf-8", "backslashreplace"))
     return status
-
-
-# ---- the command
 
 
 def percent_of(text: str) -> float:

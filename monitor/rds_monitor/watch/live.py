@@ -114,8 +114,6 @@ class LiveSession:
         if self.part:
             self._open(begin, self.place)
 
-    # ---- parts
-
     def _open(self, begin: int, at: int) -> None:
         """A part from the position `begin` on, in the hour of the position `at`: a group may have begun in the one before."""
         timing = self.arrivals.timing

@@ -259,8 +259,6 @@ class Watch:
         except (OSError, sqlite3.Error) as error:
             self._say("error", f"{path} cannot be compressed: {error}")
 
-    # ---- changes of the table, and the end
-
     def reload(self, table: Table) -> None:
         """Stations whose receiver is the same go on."""
         before, self._keep = self.stations, table.keep

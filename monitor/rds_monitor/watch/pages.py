@@ -88,9 +88,6 @@ def write_pages(
         replace(os.path.join(folder, f"{name}.html"), page)
 
 
-# ---- from the database
-
-
 def bars_of(data: sqlite3.Connection, station: str, utc: float) -> List[Bar]:
     """The blocks of the last day by `STEP` seconds."""
     count = int(DAY / STEP)
@@ -105,9 +102,6 @@ def bars_of(data: sqlite3.Connection, station: str, utc: float) -> List[Bar]:
         )
     }
     return [found.get(first + at, Bar(0, 0, 0)) for at in range(count)]
-
-
-# ---- parts of pages
 
 
 def _page(title: str, body: str, refresh: int) -> str:

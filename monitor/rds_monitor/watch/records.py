@@ -157,8 +157,6 @@ class Records:
         else:
             record.write(self.database)
 
-    # ---- parts of sessions
-
     def _open(self, opened: PartOpened) -> None:
         (name, number), data = opened.key, self.database
         insert = "INSERT OR IGNORE INTO recordings(name, station) VALUES(?, ?)"
@@ -204,8 +202,6 @@ class Records:
         end = f"MAX(begin_at, MIN(?, COALESCE({seen}, ?)))"
         query = f"UPDATE run_rows SET end_at = {end}, reason = 'the watch was killed' WHERE end_at IS NULL"
         self.database.execute(query, (utc, utc))
-
-    # ---- hours that were being written
 
     def open_parts(self) -> "List[OpenPart]":
         """The parts that no PartGrew closed, the oldest first."""

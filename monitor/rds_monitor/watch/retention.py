@@ -12,7 +12,6 @@ from .table import Keep
 
 GB = 1e9
 
-
 # Of an hour's file: its begin, path and size.
 Hour = Tuple[float, str, int]
 

@@ -70,8 +70,6 @@ class Station:
         self.table, self.keeper.patience = table, table.patience * self._speed
         self.alarms.set_table(table)
 
-    # ---- bytes
-
     def poll(self, steady: float, utc: float) -> None:
         data, self._ahead = self.keeper.read(steady), utc - steady
         if self.keeper.starts != self._starts:
@@ -155,8 +153,6 @@ class Station:
             self.end_session(utc - seconds, goes_on=True)
         self._began = utc
 
-    # ---- ticks
-
     def tick(self, steady: float, utc: float) -> None:
         """Decodes the bytes that came, and judges the station."""
         if self._session:
@@ -228,8 +224,6 @@ class Station:
             counts = {name: getattr(minute.blocks, name) for name in ("sent", "valid", "corrected")}
             self._last_minute = {"utc": timing.utc(minute.blocks.begin), **counts}
             self._clock_s = minute.clock_s if minute.clock_s is not None else self._clock_s
-
-    # ---- its state
 
     def state(self, utc: float) -> Dict[str, Any]:
         """The state now, for pages, metrics and `check`."""

@@ -124,8 +124,6 @@ class Table(NamedTuple):
         return self._replace(stations=_received(hard, receivers), receivers=tuple(receivers.values()))
 
 
-# ---- values
-
 Judge = Callable[[Any, str], Any]
 Values = Dict[str, Any]
 Receivers = Dict[str, ReceiverTable]
@@ -185,7 +183,6 @@ _patterns = _rule(
 )
 _truth = _rule(lambda value: isinstance(value, bool), "true or false is", bool)
 
-
 PI = re.compile("[0-9A-Fa-f]{4}")
 JUDGES: Dict[str, Judge] = {
     "name": _name,
@@ -228,9 +225,6 @@ RECEIVER_JUDGES: Dict[str, Judge] = {
 KEPT = {"compress": _truth}
 # Minutes and clock times that an alarm looks at, at most.
 MOST_LOOKED_AT = 60
-
-
-# ---- reading
 
 
 def read_table(path: str) -> Table:
