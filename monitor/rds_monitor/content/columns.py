@@ -22,8 +22,7 @@ def _fields(prefix: str, names: str) -> List[Field]:
 
 def fields_of(prefix: str, value: Any, names: str) -> List[Any]:
     """The values of these fields in such a payload."""
-    words = payload(value)
-    return [field.of(words) for field in _fields(prefix, names)]
+    return [field.of(payload(value)) for field in _fields(prefix, names)]
 
 
 class Columns(NamedTuple):

@@ -59,7 +59,8 @@ def options_info(parser: argparse.ArgumentParser) -> None:
 def run_info(arguments: argparse.Namespace) -> int:
     set_utf8()
     source, decoder = open_input(arguments), Decoder(rbds=arguments.rbds)
-    summary, writer = Summary(), csv.writer(sys.stdout, lineterminator="\n")
+    programmes: Dict[int, Dict[str, Last]] = {}
+    writer = csv.writer(sys.stdout, lineterminator="\n")
     names = ["time_s", "pi", "item", "value", "bit"]
     chunks = source.chunks()
     # Names of columns are written, whether or not there is a row.
@@ -73,9 +74,14 @@ def run_info(arguments: argparse.Namespace) -> int:
         elif arguments.json:
             sys.stdout.writelines(content_line(event, clock) for event in events)
         else:
-            summary.take(events)
+            for event in events:
+                items = programmes.setdefault(event.pi, {})
+                before = items.get(event.item)
+                if not before or before[0] != event.text:
+                    items[event.item] = event.text, event.place, before[2] + 1 if before else 0
     if not (arguments.csv or arguments.json):
-        sys.stdout.write(summary.text(clock_of(arguments, source)))
+        sections = [section(pi, items, clock_of(arguments, source)) for pi, items in programmes.items()]
+        sys.stdout.write("\n".join(sections) or "no station: no PI was received in valid blocks\n")
     return 0
 
 
@@ -85,27 +91,7 @@ def row_of(event: Event, clock: Clock) -> List[str]:
     return [*shown, str(event.place), *clock.utc(event.place)]
 
 
-# The last value of an item, since when it holds, and how often it changed.
-Last = Tuple[str, int, int]
-
-
-class Summary:
-    """The last values of each programme."""
-
-    def __init__(self) -> None:
-        self._programmes: Dict[int, Dict[str, Last]] = {}
-
-    def take(self, events: List[Event]) -> None:
-        for event in events:
-            items = self._programmes.setdefault(event.pi, {})
-            before = items.get(event.item)
-            if not before or before[0] != event.text:
-                items[event.item] = event.text, event.place, before[2] + 1 if before else 0
-
-    def text(self, clock: Clock) -> str:
-        if not self._programmes:
-            return "no station: no PI was received in valid blocks\n"
-        return "\n".join(section(pi, items, clock) for pi, items in self._programmes.items())
+Last = Tuple[str, int, int]  # the last value of an item, since when it holds, and how often it changed
 
 
 def section(pi: int, items: Dict[str, Last], clock: Clock) -> str:

@@ -1,6 +1,6 @@
 """Names and texts: PS, RadioText with RadioText Plus, programme type name, long PS, enhanced RadioText."""
 from functools import lru_cache
-from typing import Dict, List, NamedTuple, Optional, Tuple
+from typing import Dict, List, Optional, Tuple
 
 from .charset import decode
 from .columns import fields_of
@@ -34,12 +34,8 @@ class LongName(Taker):
         self._teller.tell_text("lps", text)
 
 
-class Tag(NamedTuple):
-    """A tag of RadioText Plus: the item that it tells, and the characters of the text from start to before end."""
-
-    item: str
-    start: int
-    end: int
+# A tag of RadioText Plus: the item that it tells, and the characters of the text from start to before end.
+Tag = Tuple[str, int, int]
 
 
 @lru_cache(1 << 10)
@@ -50,8 +46,8 @@ def tags_of(prefix: str, value: int) -> List[Tag]:
         content, start, more = fields_of("rtplus", value, f"class{number} start{number} more{number}")
         if content:
             item = f"{prefix}:{CONTENT_TYPES[content]}"
-            is_second = any(tag.item == item for tag in found)
-            found.append(Tag(item + ":2" * is_second, start, start + more + 1))
+            is_second = any(tag[0] == item for tag in found)
+            found.append((item + ":2" * is_second, start, start + more + 1))
     return found
 
 
@@ -91,9 +87,9 @@ class TaggedText(Taker):
         self._tell(f"{self.prefix}_toggle", toggle)
         self._tell(f"{self.prefix}_running", bool(running))
         tags = tags_of(self.prefix, value)
-        if len(tags) == 1 and f"{tags[0].item}:2" in self._teller.held:
-            self._teller.drop([f"{tags[0].item}:2"])
-        self._pending.update((tag.item, tag) for tag in tags)
+        if len(tags) == 1 and f"{tags[0][0]}:2" in self._teller.held:
+            self._teller.drop([f"{tags[0][0]}:2"])
+        self._pending.update((tag[0], tag) for tag in tags)
         if self._characters is not None:
             self._tell_tags()
 

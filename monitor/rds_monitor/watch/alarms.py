@@ -123,8 +123,7 @@ class Alarms:
         def ago(times: Dict[str, float]) -> Dict[str, float]:
             return {name: round(self._now - time, 3) for name, time in times.items()}
 
-        alarms = self._alarms.items()
-        gone = {name: one.gone for name, one in alarms if one.text and one.gone is not None}
+        gone = {name: one.gone for name, one in self._alarms.items() if one.text and one.gone is not None}
         return {
             "ago": ago(self._since),
             "gone": ago(gone),

@@ -327,8 +327,7 @@ def limits_of(arguments: argparse.Namespace) -> Limits:
 
 
 def _run(arguments: argparse.Namespace) -> int:
-    limits = limits_of(arguments)
-    wanted = limits, arguments.pi, arguments.name
+    wanted = limits_of(arguments), arguments.pi, arguments.name
     if arguments.station is not None:
         return report_of(judge_station(arguments.input, arguments.station, *wanted))
     if arguments.last is not None and arguments.length is not None:

@@ -178,8 +178,7 @@ class LiveSession:
         told = self.part.taken()
         for at, minute in enumerate(told.minutes):
             if minute.number in self._strengths:
-                strength = mean_of(self._strengths[minute.number])
-                told.minutes[at] = minute._replace(**strength._asdict())
+                told.minutes[at] = minute._replace(**mean_of(self._strengths[minute.number])._asdict())
         if told.changes or told.minutes or told.ticks:
             self.told.append((told, self._timing))
         if told.minutes or told.events or told.outages:

@@ -192,8 +192,7 @@ class Records:
 
     def state(self, station: str) -> Dict[str, Any]:
         """As it was seen last."""
-        query = "SELECT state FROM station_rows WHERE station = ?"
-        row = self.database.execute(query, (station,)).fetchone()
+        row = self.database.execute("SELECT state FROM station_rows WHERE station = ?", (station,)).fetchone()
         return dict(json.loads(row[0])) if row else {}
 
     def end_runs(self, utc: float) -> None:

@@ -25,8 +25,7 @@ class SharedReceiver:
 
     def __init__(self, table: ReceiverTable, speed: float, launch: Launch, now: float):
         self.table = table
-        through = demodulator(table)
-        self.keeper = Keeper(table.command, table.patience * speed, launch, now, through)
+        self.keeper = Keeper(table.command, table.patience * speed, launch, now, demodulator(table))
         self._taps: Dict[int, Tap] = {}
         self._rest = b""
         self._read_at: Optional[float] = None
