@@ -15,8 +15,7 @@ Array = NDArray[Any]
 # A key is a kind, the message among those of its kind, and the part's position in the message.
 POSITION_BITS, KIND_SHIFT = 16, 40
 MOST_PARTS = 20000
-# In place of a value that no part has.
-UNKNOWN = -1
+UNKNOWN = -1  # in place of a value that no part has
 
 
 def key_of(kind: int, message: Any = 0, position: Any = 0) -> Any:

@@ -10,8 +10,7 @@ from .looks import FLAGS, LOOKS, TEXTS, Kind, TextLook
 from .turns import OUTAGE_BITS, UNKNOWN, Message, Distinct, Segments, steps_of
 
 GROUP_BITS = 104
-# How many names of other networks are remembered, of those that were never whole.
-MOST_BEGUN = 256
+MOST_BEGUN = 256  # how many names of other networks are remembered, of those that were never whole
 
 
 class TextChange(NamedTuple):

@@ -7,8 +7,7 @@ from .features import item_number
 from .looks import Kind
 from .texts import name_of
 
-# IEC 62106, clause 6.2.1.6: the codes of frequencies, of fillers, of how many follow, and of a long or medium wave
-# after it.
+# IEC 62106, clause 6.2.1.6: the codes of frequencies, of fillers, of how many follow, and of a long or medium wave after it.
 LAST_VHF, FILLER, NONE_FOLLOW, MOST_FOLLOW, LOW_FOLLOWS = 204, 205, 224, 249, 250
 
 
@@ -89,8 +88,7 @@ class FrequencyList:
             found += [code for code in codes if code is not None]
         if len(found) != self.count:
             return None
-        # The same frequencies that come in another order, since the list was heard from its middle on, are the same
-        # list.
+        # The same frequencies that come in another order, since the list was heard from its middle on, are the same list.
         if sorted(found) != sorted(self._told):
             self._told = found
         return self._told

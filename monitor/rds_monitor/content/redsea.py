@@ -21,10 +21,8 @@ from .networks import kilohertz
 
 Object = Dict[str, Any]
 Words = Tuple[int, int, int, int]
-# How many groups are remembered: more than a station sends in turn.
-MOST_WRITTEN = 1 << 14
-# The time's place in a line, in which no control is.
-TIME = "\0"
+MOST_WRITTEN = 1 << 14  # how many groups are remembered: more than a station sends in turn
+TIME = "\0"  # the time's place in a line, in which no control is
 # The segment in which a name or text is written, besides the group in which it changes: of these bits of block 2.
 WRITTEN_IN = {"ps": (3, 3), "rt": (0xF, 0)}
 # The group types that tell an item, but for the group in which it changes.
@@ -118,8 +116,7 @@ class Redsea:
         begin = 0
         ends = numpy.searchsorted(groups["place"], [event.place for event in events]).tolist()
         for end, pairs in groupby(zip(ends, events), itemgetter(0)):
-            # Events of one group change it together.
-            told = [event for _, event in pairs]
+            told = [event for _, event in pairs]  # events of one group change it together
             if begin == end or end == len(keys) or self._changes(told, keys[end] >> 32):
                 lines += self._lines_of(keys[begin:end])
                 begin = end

@@ -60,8 +60,7 @@ class TaggedText(Taker):
         super().__init__(teller)
         self._characters: Optional[Tuple[str, ...]] = None
         self._pending: Dict[str, Tag] = {}
-        # The tags that were taken last, if the text did not change since.
-        self._last_tags = -1
+        self._last_tags = -1  # the tags that were taken last, if the text did not change since
 
     def hear(self, kind: int, message: int, codes: Optional[bytes]) -> None:
         self._last_tags = -1
@@ -136,5 +135,4 @@ class EnhancedText(TaggedText):
         return tuple(codes.decode("utf-8" if message else "utf-16-be", "replace"))
 
 
-# Those that need only the teller.
-PLAIN = (Name, RadioText, LongName, EnhancedText)
+PLAIN = (Name, RadioText, LongName, EnhancedText)  # those that need only the teller

@@ -26,8 +26,7 @@ NAME_TURNS = 4
 TEXT_BITS = 60 * 1187.5
 OUTAGE_BITS = 10 * 1187.5
 UNKNOWN = -1
-# How far a pair can be trusted.
-SINGLE, CONFIRMED, VALID = 0, 1, 2
+SINGLE, CONFIRMED, VALID = 0, 1, 2  # how far a pair can be trusted
 # How many rows that say a text again are read one by one, before others are passed at once.
 LEAST_READ = RECENT
 FIRST_PASSED = 64 * LEAST_READ
@@ -141,8 +140,7 @@ class Pace:
         self._is_text = shape.is_text
         self._segments = self.LEAST_SEGMENTS if shape.is_text else shape.segments
         self._place, self._segment = UNKNOWN, UNKNOWN
-        # The bits and steps between the last segments.
-        self._bits = self._steps = numpy.zeros(RECENT, "i8")
+        self._bits = self._steps = numpy.zeros(RECENT, "i8")  # the bits and steps between the last segments
 
     def missed(self, place: Array, segment: Array) -> Array:
         """Whether as much time went by before each of the next segments as a turn more takes."""

@@ -20,10 +20,8 @@ MINUTE_BITS = 71250.0
 SLACK = 2 * GROUP_BITS
 OUTAGE_PERCENT, OUTAGE_SECONDS = 10, 1
 NAMES = ["".join(type_names(kind)) for kind in range(TYPES)]
-# The clock time changes each minute, and its offset is a column of the minutes.
-NOT_STORED = ("ct",)
-# A name that scrolls changes each few seconds: the rest of its changes are counted.
-EVENTS_PER_MINUTE = 6
+NOT_STORED = ("ct",)  # the clock time changes each minute, and its offset is a column of the minutes
+EVENTS_PER_MINUTE = 6  # a name that scrolls changes each few seconds: the rest of its changes are counted
 
 
 class MinuteRow(NamedTuple):

@@ -1,7 +1,6 @@
 """The tables and views of a database, as the scripts that make them: one per version."""
 
-# The mark of a database of this program, in the header of its file: "RDSm".
-MARK = 0x5244536D
+MARK = 0x5244536D  # the mark of a database of this program, in the header of its file: "RDSm"
 
 TABLES = """
 CREATE TABLE recordings(

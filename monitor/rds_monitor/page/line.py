@@ -11,13 +11,11 @@ from ..content.charset import printable
 from ..content.info import label
 from ..measures.errors import Interval
 
-# Of a list at most that many rows are on a page: of more, one per step.
-MOST_LISTED = 2000
+MOST_LISTED = 2000  # of a list at most that many rows are on a page: of more, one per step
 # Counts of an interval: sent, valid, corrected, uncorrectable, not read.
 COUNTS = Interval._fields[2:]
 LANES = "PI PS RT PTY TP TA AF EON".split()
-# Seconds between two parts of one session, or one outage, by which their ends may be off.
-CUT = 0.1
+CUT = 0.1  # seconds between two parts of one session, or one outage, by which their ends may be off
 # In place of the texts of a step.
 SEVERAL = "several texts"
 Row = List[Any]

@@ -37,8 +37,7 @@ def last_minute(spans: Sequence[Span]) -> Optional[float]:
     """Per cent of bad blocks in the last minute with any, or in the last interval if that is longer."""
     for span in reversed(spans):
         count = max(1, 60 // span.step)
-        # The last interval may be shorter than a block.
-        sent = numpy.trim_zeros(span.sent, "b")
+        sent = numpy.trim_zeros(span.sent, "b")  # the last interval may be shorter than a block
         if len(sent):
             first = max(0, len(sent) - count)
             return bad_percent(int(sent[first:].sum()), int(span.valid[first : len(sent)].sum()))

@@ -23,8 +23,7 @@ from .years import write_years
 
 # A day of a recording has an interval per second. Longer extents have longer intervals: the page stays below a megabyte.
 MOST_INTERVALS = 86400
-# Intervals of all stations of a database on one page, of at least two minutes each.
-MOST_STORED = 43200
+MOST_STORED = 43200  # intervals of all stations of a database on one page, of at least two minutes each
 
 
 def options_report(parser: argparse.ArgumentParser) -> None:
@@ -85,8 +84,7 @@ class RecordedLine:
         self._session: Optional[Session] = None
         # Where the session in progress and its last whole group begin; where all ends.
         self._at, self._whole, self._end = 0.0, 0.0, 0.0
-        # How many blocks soft decisions corrected, if they are taken.
-        self._soft: Optional[int] = None
+        self._soft: Optional[int] = None  # how many blocks soft decisions corrected, if they are taken
 
     def add(self, session: Session, rows: Any) -> None:
         if session is not self._session:

@@ -13,8 +13,7 @@ from .items import Rows, Source
 RATE = 1187.5
 EPOCH_MJD = 40587
 DAY = 86400
-# The longest recording takes two years, and Python has times up to the year 9999.
-LAST_YEAR = 9990
+LAST_YEAR = 9990  # the longest recording takes two years, and Python has times up to the year 9999
 
 
 class Clock(NamedTuple):

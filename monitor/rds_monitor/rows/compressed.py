@@ -7,8 +7,7 @@ from typing import Any, Callable, Dict, Optional
 from .items import Fault, Readable
 
 CHUNK = 1 << 16
-# Bytes that say how an input is compressed.
-HEAD = 6
+HEAD = 6  # bytes that say how an input is compressed
 
 
 def zstandard(else_fault: str) -> Any:
@@ -67,6 +66,5 @@ class Decompressed:
                 raise
             raise Fault(f"the {self._name} data is damaged: {error}") from None
         if self._decoder.eof:
-            # Another stream may follow.
-            self._head, self._decoder = self._decoder.unused_data, None
+            self._head, self._decoder = self._decoder.unused_data, None  # another stream may follow
         return found

@@ -97,8 +97,7 @@ class ByProgram(Pushed):
         job = soft_job if self.is_soft else "follow"
         self._program, self._words = program, [job, *_words(rules, gaps, bits)]
         self._process: Optional["subprocess.Popen[bytes]"] = None
-        # What it wrote and was not taken yet.
-        self._text = b""
+        self._text = b""  # what it wrote and was not taken yet
 
     def push(self, data: bytes) -> Rows:
         if not data:

@@ -30,8 +30,7 @@ ITEM = numpy.dtype(
     align=True,
 )
 
-# numpy copies rows of many fields slowly, and those of bytes quickly.
-_BYTES = f"V{ITEM.itemsize}"
+_BYTES = f"V{ITEM.itemsize}"  # numpy copies rows of many fields slowly, and those of bytes quickly
 
 
 def chosen(rows: Rows, which: Any) -> Rows:

@@ -32,8 +32,7 @@ class Listing:
 
     def __init__(self, stream: Readable, head: bytes, how: Reading = Reading()):
         self.length, self.session, self.is_soft = how.length, 0, how.is_soft
-        # A part tells nothing of what was before its first row.
-        self.is_part = how.unfinished_ok
+        self.is_part = how.unfinished_ok  # a part tells nothing of what was before its first row
         # Of the session before, and of this one once they were read.
         self.totals_before: Optional[Totals] = None
         self.totals: Optional[Totals] = None
@@ -164,8 +163,7 @@ class Listing:
             raise Fault(CUT)
         told, counted = self.totals, self._counted
         if told.soft:
-            # What flips make of a mask is not told by it.
-            counted = counted._replace(bursts=(0,) * 5)
+            counted = counted._replace(bursts=(0,) * 5)  # what flips make of a mask is not told by it
         pairs = list(zip(TOTAL_NAMES, flat(told), flat(counted)))
         pairs.append(("corrected", sum(told.bursts) + sum(told.soft), self._corrected))
         wrong = [pair for pair in pairs if pair[1] < pair[2] or pair[1] > pair[2] and not self.is_part]
@@ -175,8 +173,7 @@ class Listing:
                 f"the total {name!r} is {stated}, but the rows have {found}: rows are missing or too many"
                 + ("" if stated < found else " (--unfinished accepts a part)")
             )
-        # Noise gives rows too, every minute or so; if there are none for a tenth of the time, the length is likely a
-        # wrong one.
+        # Noise gives rows too, every minute or so; if there are none for a tenth of the time, the length is likely a wrong one.
         if self.length is not None and not self._trusted and 0 < self.end < (self.length - 71250) / 1.1:
             raise Fault(
                 f"the recording has {self.length} bits, but the last row is of bit {self.end - 1}, more than a tenth before: "

@@ -9,8 +9,7 @@ import numpy
 
 from .blocks import BlockCounter
 
-# Seconds without sync after which that is said.
-PATIENCE = 2.0
+PATIENCE = 2.0  # seconds without sync after which that is said
 
 
 class Pipe:

@@ -8,8 +8,7 @@ from .items import LONGEST, Fault, Readable, Reading, Rows, Totals
 from .pipe import Pipe
 
 CHUNK = 1 << 18
-# By `list` all rows come at the end.
-SOFT_JOBS = ("follow", "list")
+SOFT_JOBS = ("follow", "list")  # by `list` all rows come at the end
 
 
 class Recording:
@@ -58,8 +57,7 @@ class Recording:
         left = self._bits
         for data in self._bytes():
             if left is not None and 8 * len(data) >= left:
-                # The program would end with its last bit.
-                whole = max(0, left - 1) // 8
+                whole = max(0, left - 1) // 8  # the program would end with its last bit
                 yield self._push(data[:whole])
                 yield self._finish(data[whole : whole + 1], left - 8 * whole)
                 return

@@ -128,8 +128,7 @@ def as_file_signal(path: str) -> List[Found]:
     with open(path, "rb") as file:
         if file.read(4) == b"fLaC":
             file.seek(20)
-            # STREAMINFO has the channels less one in three bits.
-            count = (file.read(1)[0] >> 1 & 7) + 1
+            count = (file.read(1)[0] >> 1 & 7) + 1  # STREAMINFO has the channels less one in three bits
         else:
             file.seek(0)
             count = wav_layout(file).channels

@@ -28,8 +28,7 @@ RAW_FORMS = ("f32", "s16", "u8")
 WAV_FORMS = {(1, 8): "u8", (1, 16): "s16", (1, 24): "s24", (1, 32): "s32", (3, 32): "f32", (3, 64): "f64"}
 WAV_EXTENSIBLE = 0xFFFE
 LONGEST_CHUNK = 1 << 16  # of a header that is looked at
-# Written if the length was not known, as into a pipe, or is in a chunk ds64.
-UNKNOWN_LENGTH = (0, 0xFFFFFFFF)
+UNKNOWN_LENGTH = (0, 0xFFFFFFFF)  # written if the length was not known, as into a pipe, or is in a chunk ds64
 
 
 class SampleSource(Protocol):

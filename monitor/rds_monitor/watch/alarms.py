@@ -26,10 +26,8 @@ COUNTS, EXPECTED = ("errors", "ct", "flapping"), ("pi", "ps", "rt", "af")
 # A block error rate ends an alarm below this part of the limit, and a number of sessions at this one.
 RECOVERED, CALM = 0.8, 0.5
 HOUR = 3600.0
-# Reads come each second, so a pause of bytes or of valid blocks is one only if it is longer.
-PAUSE = 2.0
-# By this part the bits of a receiver are faster or slower than those of a station.
-OFF_PACE = 0.01
+PAUSE = 2.0  # reads come each second, so a pause of bytes or of valid blocks is one only if it is longer
+OFF_PACE = 0.01  # by this part the bits of a receiver are faster or slower than those of a station
 
 
 class Change(NamedTuple):
@@ -54,8 +52,7 @@ class Alarm:
     def __init__(self, after: float, clear: float):
         self.after, self._clear = after, clear
         self.text: Optional[str] = None
-        # Since when the fault is gone.
-        self.gone: Optional[float] = None
+        self.gone: Optional[float] = None  # since when the fault is gone
 
     def judge(self, fault: Optional[Trouble], now: float, gone: Optional[float] = None) -> Optional[bool]:
         """Whether the alarm begins or ends now. A fault that is no more may be `gone` earlier."""

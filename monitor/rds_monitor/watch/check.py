@@ -28,10 +28,8 @@ from .verdict import UNKNOWN, WORDS, Limits, Seen, Verdict
 
 # A second of a listing has at most 140 rows: an acquisition, a group and a loss per block; a row, at most 80 bytes.
 LISTING_BYTES = 140 * 80
-# A dynamic PS shows all of its parts within a minute.
-NAMES_FOR = 60.0
-# A file that was written to less than this ago may just be between two writes.
-PAUSE = 5.0
+NAMES_FOR = 60.0  # a dynamic PS shows all of its parts within a minute
+PAUSE = 5.0  # a file that was written to less than this ago may just be between two writes
 
 
 class Reception:
@@ -119,8 +117,7 @@ def _add_last(reception: Reception, kept: List[Rows], source: Source, last: floa
     begins = begins_of(rows)
     rows, begins = rows[begins >= reception.begin], begins[begins >= reception.begin]
     if len(rows) and begins[0] < reception.begin + GROUP_BITS:
-        # The group that the first second cuts is left out whole.
-        reception.begin = int(begins[0])
+        reception.begin = int(begins[0])  # the group that the first second cuts is left out whole
     reception.add(rows)
 
 
@@ -148,8 +145,7 @@ def open_end(paths: Sequence[str], last: Optional[float], arguments: argparse.Na
     return Recording(data, b"", Reading(rules_of(arguments)))
 
 
-# The first bytes of an input, and the rest.
-Opened = Tuple[bytes, Readable]
+Opened = Tuple[bytes, Readable]  # the first bytes of an input, and the rest
 
 
 def _open(path: str) -> Opened:

@@ -17,8 +17,7 @@ from .bits import mean_of
 from .records import PartGrew, PartKey, PartOpened, PartTold, Record
 from .times import Arrivals, Timing
 
-# Seconds after which the database learns how far a session is, if there is nothing else to say.
-NEWS = 10.0
+NEWS = 10.0  # seconds after which the database learns how far a session is, if there is nothing else to say
 
 
 class Append(NamedTuple):
@@ -42,8 +41,7 @@ class LiveSession:
         self._path, self._size = "", 0
         self._cut = 0
         self._early: List[Rows] = []
-        # Where the last row ended, while there is sync.
-        self._row_end: Optional[int] = None
+        self._row_end: Optional[int] = None  # where the last row ended, while there is sync
         # Where the last whole group ended.
         self.whole_end: Optional[int] = None
         self._news = 0.0

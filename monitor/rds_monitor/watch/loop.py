@@ -27,12 +27,9 @@ from .times import Now, SteadyUtc, Times
 from .writer import Batch, Say, WriterThread, last_states
 
 PAGES_EVERY, TIDY_EVERY = 60.0, 3600.0
-# Rows of a station that wait for the disk, in bytes; the oldest are given up first.
-MOST_WAITING = 8 << 20
-# A batch takes milliseconds.
-HANGS = 5.0
-# Commands of the user's for alarms: how many at a time, and for how long.
-MOST_HOOKS, HOOK_SECONDS = 4, 60.0
+MOST_WAITING = 8 << 20  # rows of a station that wait for the disk, in bytes; the oldest are given up first
+HANGS = 5.0  # a batch takes milliseconds
+MOST_HOOKS, HOOK_SECONDS = 4, 60.0  # commands of the user's for alarms: how many at a time, and for how long
 
 
 class Hooks:
@@ -217,8 +214,7 @@ class Watch:
             return
         after: List[Callable[[Records], None]] = []
         utc, steady = self.utc, self._now.steady
-        # While the database cannot be written, they would only wait.
-        is_well = self._writer.fault is None
+        is_well = self._writer.fault is None  # while the database cannot be written, they would only wait
         if is_well and steady >= self._pages_at:
             self._pages_at = steady + PAGES_EVERY
             states = {name: station.state(utc) for name, station in self.stations.items()}

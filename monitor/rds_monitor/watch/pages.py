@@ -42,8 +42,7 @@ td.text{white-space:pre-wrap;overflow-wrap:anywhere}"""
 HASH = base64.b64encode(hashlib.sha256(STYLE.encode()).digest()).decode()
 POLICY = f"default-src 'none'; style-src 'sha256-{HASH}'; base-uri 'none'; form-action 'none'"
 
-# By the names of stations.
-States = Dict[str, Dict[str, Any]]
+States = Dict[str, Dict[str, Any]]  # by the names of stations
 
 
 class Bar(NamedTuple):

@@ -15,8 +15,7 @@ MOST = 1 << 22
 FIRST_PAUSE, LONGEST_PAUSE, GOOD_RUN = 1.0, 60.0, 60.0
 # The status of a command that writes to a program that has left, also by way of a shell.
 BROKEN_PIPE = (-signal.SIGPIPE, 128 + signal.SIGPIPE)
-# Between SIGTERM and SIGKILL.
-GRACE = 2.0
+GRACE = 2.0  # between SIGTERM and SIGKILL
 
 
 class Process:
@@ -128,8 +127,7 @@ class Keeper:
         self._killing: Optional[float] = None
         self._stopped = False
         self.starts = 0
-        # How the last run ended, once it has.
-        self.reason = ""
+        self.reason = ""  # how the last run ended, once it has
 
     @property
     def is_running(self) -> bool:

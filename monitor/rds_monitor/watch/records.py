@@ -11,8 +11,7 @@ from .times import Timing
 
 # For another writer, such as `rds-monitor db`. Rows of the hours do not wait for the database.
 WAIT = 1.0
-# In place of a station's name: no station has it.
-WATCH = ""
+WATCH = ""  # in place of a station's name: no station has it
 
 
 class PartKey(NamedTuple):
@@ -39,8 +38,7 @@ class PartGrew(NamedTuple):
     size: int
     closed: bool = False
     totals: Optional[Totals] = None
-    # Where an outage began that lasts.
-    quiet: Optional[int] = None
+    quiet: Optional[int] = None  # where an outage began that lasts
 
 
 class PartTold(NamedTuple):

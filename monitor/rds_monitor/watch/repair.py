@@ -4,8 +4,7 @@ import os
 
 from ..rows.parse import parse
 
-# No second of a listing has more bytes.
-TAIL = 1 << 16
+TAIL = 1 << 16  # no second of a listing has more bytes
 
 
 def make_whole(path: str) -> int:

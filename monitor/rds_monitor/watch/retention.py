@@ -12,8 +12,7 @@ from .table import Keep
 
 GB = 1e9
 
-# Of an hour's file: its begin, path and size.
-Hour = Tuple[float, str, int]
+Hour = Tuple[float, str, int]  # of an hour's file: its begin, path and size
 
 
 class Tidied(NamedTuple):

@@ -21,12 +21,9 @@ from .table import StationTable, Table, read_table
 from .times import Times
 from .writer import Writer, WriterThread
 
-# How often receivers are read, and how often what they gave is decoded and written.
-POLL, TICK = 0.1, 0.5
-# At the end, for the receivers and for the disk.
-LEAVING = 5.0
-# Seconds of packed bits in the output buffer of a program, if that is a pipe.
-BURST = 4096 * 8 / RATE
+POLL, TICK = 0.1, 0.5  # how often receivers are read, and how often what they gave is decoded and written
+LEAVING = 5.0  # at the end, for the receivers and for the disk
+BURST = 4096 * 8 / RATE  # seconds of packed bits in the output buffer of a program, if that is a pipe
 
 
 def options_watch(parser: argparse.ArgumentParser) -> None:

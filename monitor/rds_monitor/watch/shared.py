@@ -108,5 +108,4 @@ class Tap:
         self._shared.keeper.kill()
 
 
-# A station's: of a command of its own, or of one that it shares.
-AnyKeeper = Union[Keeper, Tap]
+AnyKeeper = Union[Keeper, Tap]  # a station's: of a command of its own, or of one that it shares

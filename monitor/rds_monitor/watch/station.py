@@ -18,12 +18,9 @@ from .table import StationTable
 from .times import BitPace, Timing
 from .writer import Say
 
-# Seconds between two lines of news of a station.
-NEWS = 10.0
-# Seconds by which bits may be ahead of time; then the receiver is restarted.
-AHEAD = 5.0
-# Seconds within which a dynamic PS shows all of its parts.
-NAMES_FOR = 60.0
+NEWS = 10.0  # seconds between two lines of news of a station
+AHEAD = 5.0  # seconds by which bits may be ahead of time; then the receiver is restarted
+NAMES_FOR = 60.0  # seconds within which a dynamic PS shows all of its parts
 
 
 class Station:
@@ -43,8 +40,7 @@ class Station:
         self._last_read = 0.0
         self._last_valid = now
         self._whole_utc: Optional[float] = None
-        # By how much UTC is ahead of the monotonic clock.
-        self._ahead = 0.0
+        self._ahead = 0.0  # by how much UTC is ahead of the monotonic clock
         # Since when the receiver gives the bits of the next session, and whether those of the last one were ahead of time.
         self._began, self._was_ahead = 0.0, False
         self._names: Deque[Tuple[float, str]] = deque()

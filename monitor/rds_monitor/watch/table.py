@@ -223,8 +223,7 @@ RECEIVER_JUDGES: Dict[str, Judge] = {
     "centre": _number,
 }
 KEPT = {"compress": _truth}
-# Minutes and clock times that an alarm looks at, at most.
-MOST_LOOKED_AT = 60
+MOST_LOOKED_AT = 60  # minutes and clock times that an alarm looks at, at most
 
 
 def read_table(path: str) -> Table:

@@ -7,8 +7,7 @@ from typing import Deque, NamedTuple, Optional, Tuple
 
 from ..rows.clock import RATE
 
-# A step of the machine's clock, in seconds, that is not just its being kept right.
-STEP = 1.0
+STEP = 1.0  # a step of the machine's clock, in seconds, that is not just its being kept right
 
 
 class Now(NamedTuple):
@@ -78,8 +77,7 @@ class Arrivals:
     MOST = 1e-3  # by which a rate is off
     # Seconds of bits that a receiver may have had before it was started, and over which their pace is measured.
     BACKLOG, PACE, PACE_LEAST = 60.0, 30.0, 10.0
-    # By how many seconds of bits a read is off a straight line if the pace changed at it.
-    KNEE = 0.02
+    KNEE = 0.02  # by how many seconds of bits a read is off a straight line if the pace changed at it
 
     def __init__(self, speed: float = 1.0, began: float = -math.inf):
         self.timing: Optional[Timing] = None

@@ -11,8 +11,7 @@ from .live import Append
 from .records import AlarmChanged, PartOpened, Record, Records, StateSeen
 
 RETRY = 1.0
-# Of records that wait for the database; the oldest are given up first.
-MOST_RECORDS = 500000
+MOST_RECORDS = 500000  # of records that wait for the database; the oldest are given up first
 
 Say = Callable[[str, str], None]
 
