@@ -134,10 +134,8 @@ def main(words: Optional[Sequence[str]] = None) -> int:
         status = int(command.function("run")(arguments))
         sys.stdout.flush()
         return status
-    except Misuse as error:
-        return _say(name, str(error), 2)
     except Fault as error:
-        return _say(name, str(error), 1)
+        return _say(name, str(error), 2 if isinstance(error, Misuse) else 1)
     except OSError as error:
         # The output may be the fault: what Python still holds of it is not tried again.
         os.dup2(os.open(os.devnull, os.O_WRONLY), 1)

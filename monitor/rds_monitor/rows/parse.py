@@ -6,9 +6,7 @@ from typing import Any, List, Optional, Tuple
 
 import numpy
 
-from .items import ACQUIRED, BLOCKS, CORRECTED, GROUP, ITEM, LONGEST, LOSS, LOST, UNKNOWN_TYPE, VALID
-from .items import Rows
-
+from .items import ACQUIRED, BLOCKS, CORRECTED, GROUP, ITEM, LONGEST, LOSS, LOST, UNKNOWN_TYPE, VALID, Rows
 
 TOTAL = 4  # in place of an item: a row of a total
 # Bytes before the lines, the end of a line among them, and after: a window at any field lies within them.

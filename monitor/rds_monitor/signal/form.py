@@ -6,7 +6,7 @@ import os
 import re
 import shlex
 from contextlib import suppress
-from typing import Iterator, List, NamedTuple, Tuple
+from typing import Iterator, List, Tuple
 
 import numpy
 
@@ -34,12 +34,8 @@ TRIED = ((), ("lsb_first",), ("inverted",), ("differential",), ("lsb_first", "di
 RAW_SIGNALS = ("u8 --iq", "s16", "f32", "s16 --iq", "f32 --iq", "u8")
 
 
-class Found(NamedTuple):
-    """A form: how many complete groups it gives, its name, and the command that makes packed bits of the file."""
-
-    groups: int
-    name: str
-    command: str
+# A form: how many complete groups it gives, its name, and the command that makes packed bits of the file.
+Found = Tuple[int, str, str]
 
 
 def complete(parts: Iterator[Bits]) -> int:
@@ -76,7 +72,7 @@ def as_bits(path: str, data: bytes, forms: Tuple[str, ...]) -> List[Found]:
             if groups:
                 name, options = ("".join(CHANGES[change][part] for change in changes) for part in (0, 1))
                 command = f"rds-monitor pack --from {form}{options}" if form != "packed" or options else "cat"
-                found.append(Found(groups, NAMES[form] + name, f"{command} {shlex.quote(path)}"))
+                found.append((groups, NAMES[form] + name, f"{command} {shlex.quote(path)}"))
     return found
 
 
@@ -91,7 +87,7 @@ def as_lines(path: str, data: bytes) -> List[Found]:
         return []
     keep = "tr -d '\\r' | grep -E '^([[:blank:]]*[[:xdigit:]]){16}[[:blank:]]*$' | rds encode"
     command = f"sed 's/@.*//' {shlex.quote(path)} | {keep}"
-    return [Found(len(lines), "lines of hexadecimal words", command)]
+    return [(len(lines), "lines of hexadecimal words", command)]
 
 
 def signal_of(path: str, raw: str, is_iq: bool) -> Signal:
@@ -107,7 +103,7 @@ def signal_of(path: str, raw: str, is_iq: bool) -> Signal:
 
 def found_signal(bits: Bits, samples: Signal, name: str, options: str, path: str) -> Found:
     kind = "IQ" if numpy.iscomplexobj(samples) else "MPX"
-    return Found(complete(iter([bits])), f"{kind}, {name}", f"rds-monitor demod{options} {shlex.quote(path)}")
+    return complete(iter([bits])), f"{kind}, {name}", f"rds-monitor demod{options} {shlex.quote(path)}"
 
 
 def as_raw_signal(path: str) -> List[Found]:
@@ -167,7 +163,7 @@ def forms_of(path: str, head: bytes) -> List[Found]:
         return as_file_signal(path) if rate >= SIGNAL_RATE else as_bits(path, parts_of(path, start), ("wav",))
     data = parts_of(path, 0)
     found = as_bits(path, data, tuple(name for name in NAMES if name != "wav")) + as_lines(path, data)
-    return found if any(entry.groups >= LEAST for entry in found) else found + as_raw_signal(path)
+    return found if any(groups >= LEAST for groups, _, _ in found) else found + as_raw_signal(path)
 
 
 def claims_listing(head: bytes) -> bool:
@@ -194,10 +190,10 @@ def run_form(arguments: argparse.Namespace) -> int:
     # Without a decoder no form gives a group.
     decoder_of()
     found = sorted(forms_of(path, head), reverse=True)
-    if not found or found[0].groups < LEAST:
+    if not found or found[0][0] < LEAST:
         why = "nothing was received, or it is in another format"
         raise Fault(f"no known format gives two complete groups of {path!r}: {why}")
-    width = max(len(entry.name) for entry in found)
-    rows = (f"{entry.groups:6}  {entry.name:{width}}  {entry.command}" for entry in found)
+    width = max(len(name) for _, name, _ in found)
+    rows = (f"{groups:6}  {name:{width}}  {command}" for groups, name, command in found)
     print("complete groups, form, command", *rows, sep="\n")
     return 0

@@ -150,9 +150,8 @@ class Service:
         return lock
 
     def run(self) -> int:
-        for number in (signal.SIGTERM, signal.SIGINT):
-            signal.signal(number, self._end)
-        signal.signal(signal.SIGHUP, self._reread)
+        for number in (signal.SIGTERM, signal.SIGINT, signal.SIGHUP):
+            signal.signal(number, self._hear)
         # A reader of standard error that leaves must not end the watch.
         signal.signal(signal.SIGPIPE, signal.SIG_IGN)
         self._thread.start()
@@ -165,11 +164,9 @@ class Service:
         finally:
             self._watch.kill()
 
-    def _end(self, *_: Any) -> None:
-        self._ending = True
-
-    def _reread(self, *_: Any) -> None:
-        self._rereading = True
+    def _hear(self, number: int, _: Any) -> None:
+        self._rereading |= number == signal.SIGHUP
+        self._ending |= number != signal.SIGHUP
 
     def _go_on(self) -> None:
         next_tick = time.monotonic()
