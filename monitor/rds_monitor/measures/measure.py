@@ -5,7 +5,7 @@ from typing import Any, Dict, Iterator, List, NamedTuple, Optional, Tuple
 
 import numpy
 
-from ..rows.clock import Clock, clock_of, clock_options, number_of
+from ..rows.clock import Clock, clock_of, clock_options, number_of, option_type
 from ..rows.extent import Extent, write_table
 from ..rows.inputs import input_options, open_input
 from ..rows.items import BLOCKS, CORRECTED, GROUP, UNKNOWN_TYPE, VALID, Rows, burst_lengths
@@ -60,10 +60,7 @@ class Programmes:
         return [stretch] if stretch and stretch.groups >= self._least else []
 
 
-def count_of(text: str) -> int:
-    if not text.isascii() or not text.isdigit():
-        raise argparse.ArgumentTypeError(f"{text!r} is no number of groups")
-    return int(text)
+count_of = option_type("[0-9]+", int, "is no number of groups")
 
 
 def options_programmes(parser: argparse.ArgumentParser) -> None:

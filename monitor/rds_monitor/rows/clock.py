@@ -4,7 +4,7 @@ clock time (CT) that its station sends."""
 import argparse
 import datetime
 import re
-from typing import Any, List, NamedTuple, Optional
+from typing import Any, Callable, List, NamedTuple, Optional, TypeVar
 
 import numpy
 
@@ -59,19 +59,28 @@ def start_of(text: str) -> float:
     return (whole - datetime.datetime(1970, 1, 1)).total_seconds() + float(match[1] or 0)
 
 
-def rate_of(text: str) -> float:
-    """The value of --rate: a clock that is off by a tenth is none of a sampler."""
-    rate = float(text) if re.fullmatch(r"\d+(\.\d+)?", text) else 0.0
-    if not 1068 < rate < 1307:
-        raise argparse.ArgumentTypeError(f"{text!r} is not in bits per second, 1187.5 within a tenth")
-    return rate
+Value = TypeVar("Value")
 
 
-def number_of(text: str) -> float:
-    """The value of an option that is a number, not below 0."""
-    if not re.fullmatch(r"\d{1,12}(\.\d{1,9})?", text):
-        raise argparse.ArgumentTypeError(f"{text!r} is no number")
-    return float(text)
+def option_type(
+    pattern: str, make: Callable[[str], Value], fault: str, fits: Callable[[Value], bool] = lambda value: True
+) -> Callable[[str], Value]:
+    """Makes the value of an option from a text of this pattern, if it fits. In an error the text comes before the fault."""
+
+    def value_of(text: str) -> Value:
+        value = make(text) if re.fullmatch(pattern, text) else None
+        if value is None or not fits(value):
+            raise argparse.ArgumentTypeError(f"{text!r} {fault}")
+        return value
+
+    return value_of
+
+
+# A clock that is off by a tenth is none of a sampler.
+rate_of = option_type(
+    r"\d+(\.\d+)?", float, "is not in bits per second, 1187.5 within a tenth", lambda rate: 1068 < rate < 1307
+)
+number_of = option_type(r"\d{1,12}(\.\d{1,9})?", float, "is no number")
 
 
 def clock_options(parser: argparse.ArgumentParser) -> None:

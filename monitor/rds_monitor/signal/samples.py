@@ -5,7 +5,7 @@ import os
 import struct
 import sys
 from dataclasses import dataclass
-from typing import Any, BinaryIO, Iterator, List, Optional, Protocol, Tuple
+from typing import Any, BinaryIO, Iterator, List, Optional, Tuple, Union
 
 import numpy
 from numpy.typing import NDArray
@@ -29,19 +29,6 @@ WAV_FORMS = {(1, 8): "u8", (1, 16): "s16", (1, 24): "s24", (1, 32): "s32", (3, 3
 WAV_EXTENSIBLE = 0xFFFE
 LONGEST_CHUNK = 1 << 16  # of a header that is looked at
 UNKNOWN_LENGTH = (0, 0xFFFFFFFF)  # written if the length was not known, as into a pipe, or is in a chunk ds64
-
-
-class SampleSource(Protocol):
-    """A signal: its sample rate, whether it is IQ, the sample of full scale, the frequency of the centre of IQ if it is known, and
-    its samples a block at a time."""
-
-    rate: int
-    is_iq: bool
-    full_scale: float
-    centre: Optional[float]
-
-    def blocks(self) -> Iterator[Signal]:
-        ...
 
 
 @dataclass
@@ -209,6 +196,10 @@ class Flac:
     def blocks(self) -> Iterator[Signal]:
         for frames in self._file.blocks(FRAMES_PER_BLOCK, always_2d=True):
             yield channels_of(len(frames), frames, self._channels)
+
+
+# A signal: its sample rate, whether it is IQ, the sample of full scale, the frequency of the centre if known, and samples by the block.
+SampleSource = Union[StoredSamples, Flac]
 
 
 def chosen_channels(count: int, channel: Optional[int], is_iq: bool) -> Tuple[int, ...]:

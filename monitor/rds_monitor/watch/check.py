@@ -5,7 +5,6 @@ What cannot be judged is UNKNOWN, whatever the reason: an error in the command l
 import argparse
 import io
 import os
-import re
 import sys
 import time
 from collections import deque
@@ -15,7 +14,7 @@ import numpy
 
 from ..content.decoder import Decoder
 from ..measures.measure import Programmes
-from ..rows.clock import RATE, number_of, rate_of
+from ..rows.clock import RATE, number_of, option_type, rate_of
 from ..rows.compressed import decompressed
 from ..rows.heads import is_listing
 from ..rows.hours import hour_of
@@ -237,10 +236,7 @@ def percent_of(text: str) -> float:
     return value
 
 
-def pi_of(text: str) -> str:
-    if not re.fullmatch(r"[0-9A-Fa-f]{4}", text):
-        raise argparse.ArgumentTypeError(f"{text!r} is not four hexadecimal digits")
-    return text.upper()
+pi_of = option_type("[0-9A-Fa-f]{4}", str.upper, "is not four hexadecimal digits")
 
 
 def name_of(text: str) -> str:
