@@ -67,11 +67,8 @@ def spectrum_of(station: OnAir, number: int) -> Any:
     data = baseband(station.programme)
     times = 2 * numpy.pi * numpy.arange(data.size) / NARROW
     tone = round((400 + 100 * number) * SECONDS) / SECONDS
-    mpx = (
-        0.5 * numpy.sin(tone * times)
-        + 0.09 * numpy.sin(19000 * times)
-        + 0.03 * data * numpy.sin(57000 * times)
-    )
+    sines = [numpy.sin(hertz * times) for hertz in (tone, 19000, 57000)]
+    mpx = 0.5 * sines[0] + 0.09 * sines[1] + 0.03 * data * sines[2]
     phases = numpy.cumsum(mpx - mpx.mean()) * (2 * numpy.pi * DEVIATION_HZ / NARROW)
     return 10 ** (station.level / 20) * numpy.fft.fft(numpy.exp(1j * phases))
 

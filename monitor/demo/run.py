@@ -37,8 +37,7 @@ STATIONS = (
     ("Gamma", 103.7, "D31A", "GAMMA", "News at the hour", "--dies 5400 --wrong-pi 10800:1800"),
 )
 
-# What the receiver of several stations plays.
-PLAYED = "capture_98MHz.u8"
+PLAYED = "capture_98MHz.u8"  # what the receiver of several stations plays
 SAMPLES = ["--raw", "u8", "--rate", str(capture.WIDE)]
 
 

@@ -139,8 +139,7 @@ def run_jobs(
         process.stdin.write("".join(f"{number}\n" for number in range(count)).encode())
         process.stdin.close()
     except BrokenPipeError:
-        # It ended at once: the recordings are named as not decoded.
-        pass
+        pass  # it ended at once: the recordings are named as not decoded
     for line in process.stdout:
         match = re.fullmatch(rb"([0-9]+) ([0-9]+) (.*)\n", line)
         if match:

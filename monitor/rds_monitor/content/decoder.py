@@ -135,8 +135,7 @@ class Decoder:
         index = has.nonzero()[0]
         is_same = not (has & (value != now)).any()
         if is_same and index.size:
-            # One of them says what all do.
-            sound[index[0]] = sound[index].any()
+            sound[index[0]] = sound[index].any()  # one of them says what all do
             index = index[:1]
         key = numpy.zeros(index.size, "i8") + key_of(0)
         seen = Observations(key, index, value[index], groups.whole[index], sound[index])

@@ -49,8 +49,7 @@ class Written(Dict[int, str]):
     def __missing__(self, group: int) -> str:
         found = self._make(group)
         if group >> 44 & 0xF == 6:
-            # In-house data are seldom alike.
-            return found
+            return found  # in-house data are seldom alike
         if len(self) < MOST_WRITTEN:
             self[group] = found
             self._known.setdefault(group >> 32 & 0xF80F, []).append(group)
@@ -246,8 +245,7 @@ class Redsea:
     def _channel(self, found: Object, words: Words) -> None:
         address = words[1] & 0x1F
         if f"tdc:{address}" in self._held:
-            # In version B only block 4 is the channel's.
-            own = words[3:] if words[1] & 0x800 else words[2:]
+            own = words[3:] if words[1] & 0x800 else words[2:]  # in version B only block 4 is the channel's
             raw = b"".join(word.to_bytes(2, "big") for word in own)
             found["transparent_data"] = {"address": address, "raw": raw.hex(" ").upper()}
 

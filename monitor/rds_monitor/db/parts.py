@@ -16,8 +16,7 @@ from ..rows.items import GROUP, GROUP_BITS, ITEM, Rows, Source, Totals
 from ..rows.listing import Listing, begins_of, ends_of
 
 MINUTE_BITS = 71250.0
-# How many bits after a minute its last group may come.
-SLACK = 2 * GROUP_BITS
+SLACK = 2 * GROUP_BITS  # how many bits after a minute its last group may come
 OUTAGE_PERCENT, OUTAGE_SECONDS = 10, 1
 NAMES = ["".join(type_names(kind)) for kind in range(TYPES)]
 NOT_STORED = ("ct",)  # the clock time changes each minute, and its offset is a column of the minutes

@@ -83,8 +83,7 @@ class SessionRows:
         if key not in self._facts:
             if len(self._facts) > MOST_FACTS:
                 self._facts = {}
-            # NULLs are never the same to UNIQUE.
-            query = "SELECT id FROM facts WHERE item = ? AND value IS ?"
+            query = "SELECT id FROM facts WHERE item = ? AND value IS ?"  # NULLs are never the same to UNIQUE
             found = self._database.execute(query, key).fetchone()
             insert = "INSERT INTO facts(item, value) VALUES(?, ?)"
             number = found[0] if found else self._database.execute(insert, key).lastrowid
@@ -279,8 +278,7 @@ def run_db(arguments: argparse.Namespace) -> int:
     for path in paths:
         source = open_input(arguments, path, sessions=True)
         sessions = sessions_of(source, clock_of_hour(arguments, path))
-        # An input that cannot be read makes no database.
-        first = next(sessions)
+        first = next(sessions)  # an input that cannot be read makes no database
         store = store or Store(arguments.database)
         name = os.path.basename(path) if arguments.name is None else arguments.name
         station = arguments.station

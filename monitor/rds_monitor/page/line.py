@@ -12,12 +12,10 @@ from ..content.info import label
 from ..measures.errors import Interval
 
 MOST_LISTED = 2000  # of a list at most that many rows are on a page: of more, one per step
-# Counts of an interval: sent, valid, corrected, uncorrectable, not read.
-COUNTS = Interval._fields[2:]
+COUNTS = Interval._fields[2:]  # counts of an interval: sent, valid, corrected, uncorrectable, not read
 LANES = "PI PS RT PTY TP TA AF EON".split()
 CUT = 0.1  # seconds between two parts of one session, or one outage, by which their ends may be off
-# In place of the texts of a step.
-SEVERAL = "several texts"
+SEVERAL = "several texts"  # in place of the texts of a step
 Row = List[Any]
 Stretch = Tuple[float, float, str]
 
@@ -42,8 +40,7 @@ class Said(NamedTuple):
 def said(item: str, value: Optional[str]) -> Said:
     name, text = label(item), printable(value or "")
     first = name.split(" ")[0]
-    # There are several of these; RT flag is no RT.
-    lane = first if first in ("AF", "EON") else name
+    lane = first if first in ("AF", "EON") else name  # there are several of these; RT flag is no RT
     shown = f"{name[4:]}: {text}" if lane == "EON" and text else text
     return Said(name, text, lane if lane in LANES else "", shown)
 

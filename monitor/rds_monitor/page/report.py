@@ -89,8 +89,7 @@ class RecordedLine:
     def add(self, session: Session, rows: Any) -> None:
         if session is not self._session:
             self._session, self._seconds = session, Errors(session.clock.rate)
-            # It follows on the one before.
-            self._at = self._end
+            self._at = self._end  # it follows on the one before
             self._whole = self._at + session.part.begin / session.clock.rate
             self._begin = self._whole
         self._seconds.add(rows)

@@ -23,8 +23,7 @@ Pairs = Iterable[Tuple[int, int]]
 MAGIC = b"SQLite format 3\0"
 # Seconds of an interval of a page. In two minutes there is one that is stored, though the sampler's clock is off.
 STEPS = (120, 3600, DAY)
-# With intervals of an hour the group mix is that of one minute in twenty.
-MIX_MINUTES = 20
+MIX_MINUTES = 20  # with intervals of an hour the group mix is that of one minute in twenty
 MOST_FACTS = 20000
 SESSIONS = "WHERE session IN (SELECT value FROM json_each(?))"
 OUTAGES = f"SELECT session, begin_place, end_place FROM outage_rows {SESSIONS} ORDER BY 1, 2"
@@ -104,8 +103,7 @@ class StoredStation:
         self.name, self._stored = name, stored
         self.held: Dict[str, str] = {}
         self._lanes, self._run, self._heard, self._done = Lanes(), -1, 0.0, 0
-        # Of the sessions that there are, those whose start is not known.
-        self.unknown = 0
+        self.unknown = 0  # of the sessions that there are, those whose start is not known
         self.sessions = sorted(self._sessions(with_unknown))
         self._stands: Optional[Standing] = None
         self._watched = self._look() if stored.is_watched else []

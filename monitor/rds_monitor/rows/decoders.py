@@ -16,7 +16,7 @@ import termios
 import time
 from functools import partial
 from pathlib import Path
-from typing import Any, BinaryIO, Callable, List, Optional, Sequence, Tuple, Union
+from typing import Any, Callable, List, Optional, Sequence, Tuple, Union
 
 from .items import Fault, Rows, Rules, Totals, joined
 from .listing import SOFT_NAMES, TOTAL_NAMES, TOTAL_ROW, totals_from
@@ -97,9 +97,6 @@ class ByProgram(Pushed):
         job = soft_job if self.is_soft else "follow"
         self._program, self._words = program, [job, *_words(rules, gaps, bits)]
         self._process: Optional["subprocess.Popen[bytes]"] = None
-        self._in: BinaryIO
-        self._out: BinaryIO
-        self._err: BinaryIO
         self._text = b""  # what it wrote and was not taken yet
 
     def push(self, data: bytes) -> Rows:
@@ -153,8 +150,7 @@ class ByProgram(Pushed):
                 before = len(rest), unread[0]
                 pause, end = FIRST_PAUSE, time.monotonic() + PATIENCE
             elif waits:
-                # It slept before the read found nothing, so it has not more to write.
-                return
+                return  # it slept before the read found nothing, so it has not more to write
             elif time.monotonic() > end:
                 self._process.kill()
                 raise Fault(f"{self._program} did nothing for {PATIENCE:g} s")
@@ -166,7 +162,7 @@ class ByProgram(Pushed):
         # A program that has ended must not end this one.
         blocked = signal.pthread_sigmask(signal.SIG_BLOCK, {signal.SIGPIPE})
         try:
-            return self._in.write(data) or 0 if data else 0
+            return int(self._in.write(data) or 0) if data else 0
         except BrokenPipeError:
             signal.sigtimedwait({signal.SIGPIPE}, 0)
             self._read()

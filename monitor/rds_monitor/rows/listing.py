@@ -20,8 +20,7 @@ TOTAL_NAMES = "valid burst1 burst2 burst3 burst4 burst5 lost bits groups complet
 SOFT_NAMES = [f"soft{flips}" for flips in range(1, 7)]
 TOTAL_ROW = re.compile(rb"total,([a-z0-9]+),(0|[1-9][0-9]{0,19}),-,-,-,-,-")
 LINES = 1 << 19
-# No row has a tenth of it.
-LONGEST_LINE = 1 << 12
+LONGEST_LINE = 1 << 12  # no row has a tenth of it
 CUT = "the listing does not end in its totals: it is cut off, or rds has not ended (--unfinished accepts it)"
 
 
@@ -92,8 +91,7 @@ class Listing:
             yield lines.replace(b"\r\n", b"\n") if b"\r" in lines else lines
         rest = rest.rstrip(b"\r")
         if TOTAL_ROW.fullmatch(rest):
-            # Its last field cannot go on, so the line is whole, though it lacks its end.
-            yield rest + b"\n"
+            yield rest + b"\n"  # its last field cannot go on, so the line is whole, though it lacks its end
         elif rest and not self.is_part:
             raise Fault(CUT)
 

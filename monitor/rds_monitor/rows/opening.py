@@ -49,8 +49,7 @@ def _open(path: str) -> Tuple[Readable, Optional[int]]:
     try:
         status = os.fstat(stream.fileno())
     except io.UnsupportedOperation:
-        # Bytes in memory.
-        return stream, None
+        return stream, None  # bytes in memory
     if not stat.S_ISREG(status.st_mode):
         return Pipe(stream), None
     return stream, None if path == "-" else status.st_size

@@ -20,8 +20,7 @@ class Pipe:
         self._blocks, self._told, self._synced = BlockCounter(), False, False
 
     def read(self, size: int, /) -> bytes:
-        # The reader of the output has all of it before more is waited for.
-        sys.stdout.flush()
+        sys.stdout.flush()  # the reader of the output has all of it before more is waited for
         rest = max(0.0, self._began + PATIENCE - time.monotonic())
         if not (self._told or self._synced or select.select([self._stream], [], [], rest)[0]):
             self._tell()

@@ -187,8 +187,7 @@ def run_form(arguments: argparse.Namespace) -> int:
     if claims_listing(head):
         print(f"a listing of rds list or rds follow, not a recording: rds-monitor info {shlex.quote(path)}")
         return 0
-    # Without a decoder no form gives a group.
-    decoder_of()
+    decoder_of()  # without a decoder no form gives a group
     found = sorted(forms_of(path, head), reverse=True)
     if not found or found[0][0] < LEAST:
         why = "nothing was received, or it is in another format"

@@ -15,8 +15,7 @@ def say(priority: str, text: str) -> None:
     try:
         print(f"{mark}{printable(text)}", file=sys.stderr, flush=True)
     except OSError:
-        # Nobody reads it: the watch goes on.
-        pass
+        pass  # nobody reads it: the watch goes on
 
 
 def notify(text: str) -> None:
@@ -28,5 +27,4 @@ def notify(text: str) -> None:
         with socket.socket(socket.AF_UNIX, socket.SOCK_DGRAM | socket.SOCK_CLOEXEC) as sock:
             sock.sendto(text.encode("ascii"), "\0" + address[1:] if address[0] == "@" else address)
     except OSError:
-        # It will say itself that it heard nothing.
-        pass
+        pass  # it will say itself that it heard nothing

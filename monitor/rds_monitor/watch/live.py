@@ -42,11 +42,9 @@ class LiveSession:
         self._cut = 0
         self._early: List[Rows] = []
         self._row_end: Optional[int] = None  # where the last row ended, while there is sync
-        # Where the last whole group ended.
-        self.whole_end: Optional[int] = None
+        self.whole_end: Optional[int] = None  # where the last whole group ended
         self._news = 0.0
-        # Of the last minutes, by their numbers.
-        self._strengths: Dict[int, List[Strength]] = {}
+        self._strengths: Dict[int, List[Strength]] = {}  # of the last minutes, by their numbers
         self.appends: List[Append] = []
         self.records: List[Record] = []
         self.told: List[Tuple[Told, Timing]] = []

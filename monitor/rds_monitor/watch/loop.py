@@ -77,13 +77,11 @@ class Watch:
         self._clock = SteadyUtc(self._now, times.speed)
         self._keep = table.keep
         self.stations: Dict[str, Station] = {}
-        # By the receiver's name.
-        self._shared: Dict[str, SharedReceiver] = {}
+        self._shared: Dict[str, SharedReceiver] = {}  # by the receiver's name
         self._leaving: List[Station] = []
         self._appends: List[Append] = []
         self._records: List[Record] = []
-        # Hours' files that are closed, to be compressed one at a time.
-        self._closed: Deque[str] = deque()
+        self._closed: Deque[str] = deque()  # hours' files that are closed, to be compressed one at a time
         self._hooks = Hooks(say)
         self._busy_since: Optional[float] = None
         self._unwritten_since: Optional[float] = None

@@ -10,8 +10,7 @@ from ..rows.decoders import how_ended
 
 # Linux: a pipe of a megabyte holds a second of any signal while the disk is busy.
 F_SETPIPE_SZ, PIPE_BYTES = 1031, 1 << 20
-# Bytes that are read at once, so that one receiver cannot hold up the others.
-MOST = 1 << 22
+MOST = 1 << 22  # bytes that are read at once, so that one receiver cannot hold up the others
 FIRST_PAUSE, LONGEST_PAUSE, GOOD_RUN = 1.0, 60.0, 60.0
 # The status of a command that writes to a program that has left, also by way of a shell.
 BROKEN_PIPE = (-signal.SIGPIPE, 128 + signal.SIGPIPE)
@@ -105,8 +104,7 @@ def _started(words: Sequence[str], given: Any) -> "subprocess.Popen[bytes]":
     try:
         fcntl.fcntl(process.stdout.fileno(), F_SETPIPE_SZ, PIPE_BYTES)
     except OSError:
-        # Over the limit of a user, or another system.
-        pass
+        pass  # over the limit of a user, or another system
     return process
 
 
@@ -167,8 +165,7 @@ class Keeper:
             last = self._it.read()
             if last:
                 return last
-            # Others of its group may be left, such as programs of a pipeline.
-            self._it.kill()
+            self._it.kill()  # others of its group may be left, such as programs of a pipeline
             self._end(now, self.reason if self._killing is not None and self.reason else ended)
             return None
         if self._killing is not None:

@@ -119,8 +119,7 @@ class Records:
     """The open database."""
 
     def __init__(self, path: str):
-        # It makes the tables, or brings them up to date.
-        Store(path).close()
+        Store(path).close()  # it makes the tables, or brings them up to date
         self.database = sqlite3.connect(path, timeout=WAIT, isolation_level=None, check_same_thread=False)
         self.database.execute("PRAGMA foreign_keys = ON")
         self.database.execute("PRAGMA synchronous = FULL")
@@ -137,8 +136,7 @@ class Records:
                 for record in records:
                     self._write(record)
         except BaseException:
-            # Its notes are not there.
-            self.forget()
+            self.forget()  # its notes are not there
             raise
 
     def forget(self) -> None:

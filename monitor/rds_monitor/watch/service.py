@@ -145,8 +145,7 @@ class Service:
             fcntl.flock(lock, fcntl.LOCK_EX | fcntl.LOCK_NB)
         except OSError:
             raise Fault(f"another watch writes to {folder!r}") from None
-        # By it `check` knows since when the watch runs.
-        os.utime(lock)
+        os.utime(lock)  # by it `check` knows since when the watch runs
         return lock
 
     def run(self) -> int:

@@ -80,8 +80,7 @@ class StationTable:
     pi: Tuple[str, ...] = ()
     ps: Tuple[str, ...] = ()
     rt: Tuple[str, ...] = ()
-    # In kHz.
-    af: Tuple[int, ...] = ()
+    af: Tuple[int, ...] = ()  # in kHz
     patience: float = 10
     alarm_command: Tuple[str, ...] = ()
     alarms: AlarmLimits = field(default_factory=AlarmLimits)
@@ -111,8 +110,7 @@ class Table(NamedTuple):
     folder: Optional[str]
     keep: Keep
     stations: Tuple[StationTable, ...]
-    # that decodes, in place of librds
-    program: Optional[str] = None
+    program: Optional[str] = None  # that decodes, in place of librds
     receivers: Tuple[ReceiverTable, ...] = ()
     # Whether it says `soft = true`: soft decisions by default need no decoder that has them.
     needs_soft: bool = False
@@ -342,8 +340,7 @@ def _station(given: Any, defaults: Dict[str, Any], number: int, receivers: Recei
     if "receiver" in found:
         found["receiver"] = receivers[found["receiver"]]
     elif "equaliser" not in found:
-        # Of a receiver's only station.
-        found["equaliser"] = found.get("form") == "iq"
+        found["equaliser"] = found.get("form") == "iq"  # of a receiver's only station
     found.setdefault("soft", found.get("form", "bits") != "bits")
     station = StationTable(**found, alarms=replace(AlarmLimits(), **limits))
     _judge_form(station, of)

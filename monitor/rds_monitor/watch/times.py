@@ -84,8 +84,7 @@ class Arrivals:
         self._speed, self._began = speed, began
         self._first = self._since = 0.0
         self._before, self._settled = 0.0, False
-        # Of each second, and since when.
-        self._delays: Deque[Tuple[int, float]] = deque()
+        self._delays: Deque[Tuple[int, float]] = deque()  # of each second, and since when
         self._noted = 0
         self.reads: Deque[Tuple[float, int]] = deque()
 

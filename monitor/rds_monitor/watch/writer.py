@@ -40,8 +40,7 @@ class HourWriter:
 
     def _file(self, path: str) -> int:
         if path in self._open and not os.fstat(self._open[path]).st_nlink:
-            # Somebody deleted it: the rows to come are in a new one.
-            self.close(path)
+            self.close(path)  # somebody deleted it: the rows to come are in a new one
         if path not in self._open:
             whole = os.path.join(self._folder, path)
             parent = os.path.dirname(whole)
@@ -81,8 +80,7 @@ class Writer:
         self._unsynced: List[str] = []
         self._waiting: List[Record] = []
         self._after: List[Callable[[Records], None]] = []
-        # What comes while rows wait.
-        self.news: Deque[Record] = deque()
+        self.news: Deque[Record] = deque()  # what comes while rows wait
         self.fault: Optional[str] = None
 
     @property
