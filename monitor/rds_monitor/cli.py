@@ -103,19 +103,16 @@ def chosen(words: Sequence[str]) -> Optional[Command]:
         sys.stdout.write(overview())
         return None
     if words[0] in ("-V", "--version"):
-        print(f"rds-monitor {__version__}", f"decoder: {decoder_in_use()}", sep="\n")
+        try:
+            decoder = importlib.import_module("rds_monitor.rows.decoders").decoder_of()[1]
+        except Fault as error:
+            decoder = f"none: {error}"
+        print(f"rds-monitor {__version__}", f"decoder: {decoder}", sep="\n")
         return None
     found = next((command for command in COMMANDS if command.name == words[0]), None)
     if not found:
         raise Misuse(f"there is no command {words[0]!r}: rds-monitor --help lists them")
     return found
-
-
-def decoder_in_use() -> str:
-    try:
-        return str(importlib.import_module("rds_monitor.rows.decoders").decoder_of()[1])
-    except Fault as error:
-        return f"none: {error}"
 
 
 def main(words: Optional[Sequence[str]] = None) -> int:

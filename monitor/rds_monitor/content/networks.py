@@ -1,5 +1,5 @@
 """Alternative frequencies, and other networks (EON)."""
-from typing import Any, Dict, List, Optional, Tuple
+from typing import Any, Dict, List, Optional
 
 from . import names
 from .events import Taker, Teller
@@ -81,7 +81,13 @@ class FrequencyList:
         if self.count == 0:
             return []
         if first is not None and beside:
-            return self._by_transmitter(first, beside) if len(beside) == self.count // 2 else None
+            if len(beside) != self.count // 2:
+                return None
+            same, regional = (
+                sorted(filter(None, (kilohertz(low if high == self.first else high) for high, low in chosen)))
+                for chosen in ([p for p in beside if p[0] <= p[1]], [p for p in beside if p[0] > p[1]])
+            )
+            return {"tuned": first, "same": same, "regional": regional}
         found = [first] if first is not None else []
         for high, low in pairs:
             codes = [kilohertz(low, True)] if high == LOW_FOLLOWS else [kilohertz(high), kilohertz(low)]
@@ -92,13 +98,6 @@ class FrequencyList:
         if sorted(found) != sorted(self._told):
             self._told = found
         return self._told
-
-    def _by_transmitter(self, first: int, pairs: List[Tuple[int, int]]) -> Dict[str, Any]:
-        same, regional = (
-            sorted(filter(None, (kilohertz(low if high == self.first else high) for high, low in chosen)))
-            for chosen in ([p for p in pairs if p[0] <= p[1]], [p for p in pairs if p[0] > p[1]])
-        )
-        return {"tuned": first, "same": same, "regional": regional}
 
 
 def _many(frequencies: List[int]) -> str:

@@ -71,13 +71,6 @@ class Reception:
         before = [name for place, name in self._names if place < since]
         return before[-1:] + [name for place, name in self._names if place >= since]
 
-    def per_cent(self, blocks: int) -> float:
-        """Of the blocks sent. A block more than was sent whole may be read where the input is cut."""
-        sent = (self.end - self.begin) // BLOCK_BITS
-        if not sent:
-            raise Fault("there is no block in it")
-        return min(100.0, 100 * blocks / sent)
-
 
 def received(source: Source, last: Optional[float], rate: float, names: bool) -> Reception:
     """What the last session of a source tells: of its last seconds, if only these are judged."""
@@ -215,7 +208,12 @@ def seen_in(reception: Reception, quiet: float, rate: float) -> Seen:
     age = None
     if reception.whole_until is not None:
         age = (reception.end - reception.whole_until) / rate + (quiet if quiet < PAUSE else 0)
-    valid, corrected = map(reception.per_cent, (reception.valid, reception.corrected))
+    sent = (reception.end - reception.begin) // BLOCK_BITS
+    if not sent:
+        raise Fault("there is no block in it")
+    # Of the blocks sent. A block more than was sent whole may be read where the input is cut.
+    counts = reception.valid, reception.corrected
+    valid, corrected = (min(100.0, 100 * count / sent) for count in counts)
     pi = None if reception.pi is None else f"{reception.pi:04X}"
     return Seen(valid, corrected, age, pi, [name.strip() for name in reception.names()])
 
