@@ -7,6 +7,7 @@ A block that is not known is `----`. RDS Spy adds the time after `@`; in place o
 Lines that begin with `<`, and lines `G:`, hold no group."""
 import datetime
 import re
+from contextlib import suppress
 from itertools import chain
 from typing import Iterator, List, Optional, Sequence, Tuple
 
@@ -34,12 +35,10 @@ def line_of(line: bytes, number: int) -> Optional[Tuple[List[int], Optional[floa
 
 def _time_of(text: str, number: int) -> float:
     for form in _TIMES:
-        try:
+        with suppress(ValueError):
             time = datetime.datetime.strptime(text, form)
             if time.year <= LAST_YEAR:
                 return (time - datetime.datetime(1970, 1, 1)).total_seconds()
-        except ValueError:
-            pass
     raise Fault(f"line {number}: {text!r} is no time such as 2026/03/29 00:30:00.09")
 
 

@@ -6,7 +6,7 @@ numpy over the bytes of many lines at once (parse.py); the order of rows is judg
 
 import re
 from itertools import chain
-from typing import Iterator, List, NoReturn, Optional, Sequence, Tuple
+from typing import Iterator, List, Optional, Sequence, Tuple
 
 import numpy
 
@@ -65,16 +65,15 @@ class Listing:
             except Bad as error:
                 bad = error
             if bad:
-                self._refuse(lines, number + bad.row, bad)
+                line = lines.split(b"\n", bad.row + 1)[bad.row]
+                if line == HEADER:
+                    raise Fault(
+                        f"row {number + bad.row}: a second listing begins here, with names of columns"
+                    )
+                text = line[:80].decode("ascii", "backslashreplace")
+                raise Fault(f"row {number + bad.row}: {bad.reason}: {text!r}")
             number += len(rows)
         self._close()
-
-    def _refuse(self, lines: bytes, number: int, bad: Bad) -> NoReturn:
-        line = lines.split(b"\n", bad.row + 1)[bad.row]
-        if line == HEADER:
-            raise Fault(f"row {number}: a second listing begins here, with names of columns")
-        text = line[:80].decode("ascii", "backslashreplace")
-        raise Fault(f"row {number}: {bad.reason}: {text!r}") from None
 
     def _lines(self) -> Iterator[bytes]:
         """The text in pieces of whole lines, each ended by a line feed alone."""

@@ -11,23 +11,10 @@ from ..rows.items import Fault, Misuse
 from .samples import FORMS, numbers, wav_layout
 from .symbols import Bits, DifferentialDecoder
 
+Reader = Callable[[BinaryIO], Iterator[Bits]]
 CHUNK = 1 << 20
 WHOLE = 8  # a multiple of every sample's bytes
 
-# What each form is, as help and the command form name it.
-NAMES = {
-    "packed": "packed bits",
-    "bytes": "unpacked bits, bytes 0 and 1",
-    "bytes255": "unpacked bits, bytes 0 and 255",
-    "text": "a text of 0 and 1",
-    "hex": "hexadecimal digits",
-    "s8": "signed bytes, one sample per bit",
-    "s16": "16-bit samples, one per bit",
-    "f32": "soft bits, 32-bit floating point",
-    "wav": "a WAV file of one sample per bit",
-    "soft": "signed bytes, one per symbol, as rds --soft reads them",
-    "soft-f32": "32-bit floating point, one per symbol",
-}
 SYMBOLS = {"soft": "s8", "soft-f32": "f32"}  # and their samples
 BLANKS = b" \t\r\n\v\f"
 
@@ -61,6 +48,10 @@ def _checked(stream: BinaryIO, allowed: bytes, fault: str) -> Iterator[bytes]:
             raise Fault(fault.format(read + data.index(strange[:1]) + 1, strange[0]))
         read += len(data)
         yield data
+
+
+def _packed(stream: BinaryIO) -> Iterator[Bits]:
+    return (numpy.unpackbits(numpy.frombuffer(data, "u1")) for data in _chunks(stream))
 
 
 def _hex(stream: BinaryIO) -> Iterator[Bits]:
@@ -125,16 +116,22 @@ def _up_to(stream: BinaryIO, length: "int | None") -> Iterator[bytes]:
         yield data
 
 
-READERS: Dict[str, Callable[[BinaryIO], Iterator[Bits]]] = {
-    "packed": lambda stream: (numpy.unpackbits(numpy.frombuffer(data, "u1")) for data in _chunks(stream)),
-    "hex": _hex,
-    "text": _text,
-    "wav": _wav,
-    "bytes": partial(_bytes, one=1),
-    "bytes255": partial(_bytes, one=255),
-    **{form: partial(_stored, form=form) for form in ("s8", "s16", "f32")},
-    **{name: partial(_symbols, form=form) for name, form in SYMBOLS.items()},
+# What each form is, as help and the command form name it, and its reader.
+FORMS_OF_BITS: Dict[str, Tuple[str, Reader]] = {
+    "packed": ("packed bits", _packed),
+    "bytes": ("unpacked bits, bytes 0 and 1", partial(_bytes, one=1)),
+    "bytes255": ("unpacked bits, bytes 0 and 255", partial(_bytes, one=255)),
+    "text": ("a text of 0 and 1", _text),
+    "hex": ("hexadecimal digits", _hex),
+    "s8": ("signed bytes, one sample per bit", partial(_stored, form="s8")),
+    "s16": ("16-bit samples, one per bit", partial(_stored, form="s16")),
+    "f32": ("soft bits, 32-bit floating point", partial(_stored, form="f32")),
+    "wav": ("a WAV file of one sample per bit", _wav),
+    "soft": ("signed bytes, one per symbol, as rds --soft reads them", partial(_symbols, form="s8")),
+    "soft-f32": ("32-bit floating point, one per symbol", partial(_symbols, form="f32")),
 }
+NAMES = {form: name for form, (name, _) in FORMS_OF_BITS.items()}
+READERS = {form: reader for form, (_, reader) in FORMS_OF_BITS.items()}
 
 
 def bits_of(stream: BinaryIO, form: str, change: Conversion = Conversion()) -> Iterator[Bits]:

@@ -4,6 +4,7 @@ import fcntl
 import os
 import signal
 import subprocess
+from contextlib import suppress
 from typing import Any, Callable, Dict, List, Optional, Sequence
 
 from ..rows.decoders import how_ended
@@ -81,10 +82,8 @@ class Process:
     @staticmethod
     def _signal(process: "subprocess.Popen[bytes]", number: int) -> None:
         """To the whole group, also if the process that began it has ended."""
-        try:
+        with suppress(ProcessLookupError, PermissionError):
             os.killpg(process.pid, number)
-        except (ProcessLookupError, PermissionError):
-            pass
 
     def close(self) -> None:
         for process in self._all:
@@ -101,10 +100,8 @@ def _started(words: Sequence[str], given: Any) -> "subprocess.Popen[bytes]":
     )
     assert process.stdout and process.stderr
     os.set_blocking(process.stderr.fileno(), False)
-    try:
+    with suppress(OSError):  # over the limit of a user, or another system
         fcntl.fcntl(process.stdout.fileno(), F_SETPIPE_SZ, PIPE_BYTES)
-    except OSError:
-        pass  # over the limit of a user, or another system
     return process
 
 

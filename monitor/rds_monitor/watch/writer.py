@@ -5,6 +5,7 @@ import sqlite3
 import threading
 import traceback
 from collections import deque
+from contextlib import suppress
 from typing import Callable, Deque, Dict, Iterable, List, NamedTuple, Optional, Sequence
 
 from .live import Append
@@ -133,11 +134,9 @@ class Writer:
     def _write_news(self) -> None:
         """Alarms and states, which tell of no row, if at least the database can be written."""
         known = [(isinstance(record, (AlarmChanged, StateSeen)), record) for record in self._waiting]
-        try:
+        with suppress(sqlite3.Error):
             self._records.write([record for is_news, record in known if is_news])
             self._waiting = [record for is_news, record in known if not is_news]
-        except sqlite3.Error:
-            pass
 
     def _sync(self) -> None:
         while self._unsynced:
