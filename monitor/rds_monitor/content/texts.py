@@ -15,23 +15,16 @@ def name_of(codes: bytes) -> str:
 
 
 class Name(Taker):
-    """A name in groups of its own: PS in 0A and 0B, PTYN in 10A, the provider of a TMC service in 8A."""
+    """A name in groups of its own: PS in 0A and 0B, PTYN in 10A, the provider of a TMC service in 8A, and the long PS in 15A, in UTF-8."""
 
-    items = {Kind.PS: "ps", Kind.PTYN: "ptyn", Kind.TMC_NAME: "tmc_provider"}
+    items = {Kind.PS: "ps", Kind.PTYN: "ptyn", Kind.TMC_NAME: "tmc_provider", Kind.LPS: "lps"}
     kinds = tuple(items)
 
     def hear(self, kind: int, message: int, codes: Optional[bytes]) -> None:
-        self._teller.tell_text(self.items[Kind(kind)], name_of(codes) if codes is not None else None)
-
-
-class LongName(Taker):
-    """Group 15A: the long PS, in UTF-8."""
-
-    kinds = (Kind.LPS,)
-
-    def hear(self, kind: int, message: int, codes: Optional[bytes]) -> None:
-        text = None if codes is None else codes.decode("utf-8", "replace").rstrip(" \0")
-        self._teller.tell_text("lps", text)
+        name = None if codes is None else name_of(codes)
+        if codes is not None and kind == Kind.LPS:
+            name = codes.decode("utf-8", "replace").rstrip(" \0")
+        self._teller.tell_text(self.items[Kind(kind)], name)
 
 
 # A tag of RadioText Plus: the item that it tells, and the characters of the text from start to before end.
@@ -135,4 +128,4 @@ class EnhancedText(TaggedText):
         return tuple(codes.decode("utf-8" if message else "utf-16-be", "replace"))
 
 
-PLAIN = (Name, RadioText, LongName, EnhancedText)  # those that need only the teller
+PLAIN = (Name, RadioText, EnhancedText)  # those that need only the teller

@@ -15,12 +15,7 @@ class Recording:
     """Packed bits, decoded chunk by chunk."""
 
     def __init__(
-        self,
-        stream: Readable,
-        head: bytes,
-        how: Reading,
-        size: Optional[int] = None,
-        pipe: Optional[Pipe] = None,
+        self, stream: Readable, head: bytes, how: Reading, size: Optional[int], pipe: Optional[Pipe]
     ):
         self.is_soft = how.rules.margin > 0
         self.length = how.bits

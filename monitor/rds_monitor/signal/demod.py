@@ -9,7 +9,8 @@ import numpy
 
 from ..rows.items import Fault, Misuse
 from .centre import frequency_of
-from .outputs import BitWriter, QualityLine, report_of
+from .outputs import QualityLine, report_of
+from .pack import BitWriter
 from .rates import likely_rate
 from .receiver import RATES, Capture
 from .samples import RAW_FORMS, SampleSource, Signal, open_samples

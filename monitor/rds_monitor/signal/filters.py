@@ -9,6 +9,7 @@ import numpy
 from .samples import Complexes, Reals, Signal
 from .transforms import transforms
 
+Gain = Callable[[Reals], Reals]  # of a filter by frequency
 OVERLAPS = 32  # of which a block has the length
 
 
@@ -31,23 +32,16 @@ def fast_size(number: Union[float, Fraction]) -> int:
 
 
 class Passband:
-    """The part of a signal within `reach` Hz of `centre`, at `rate_out`, the least rate above `least_rate` that a block allows.
+    """The part of a signal within `reach` Hz of `centre`, at `rate_out`, the lowest rate above `least` that a block allows.
 
     Of a block's Fourier transform this part is filtered; transformed back, it is at 0 Hz and has fewer samples. A real
     signal keeps its amplitude: cos(2 pi centre t) becomes 1."""
 
     def __init__(
-        self,
-        rate: Fraction,
-        centre: float,
-        reach: float,
-        response: Callable[[Reals], Reals],
-        least_rate: float,
-        block: int,
-        is_real: bool,
+        self, rate: Fraction, centre: float, reach: float, gain: Gain, least: float, block: int, is_real: bool
     ):
         self.rate, self.block, self.is_real = rate, block, is_real
-        self.kept = min(block, fast_size(Fraction(least_rate) * block / rate))
+        self.kept = min(block, fast_size(Fraction(least) * block / rate))
         self.rate_out = rate * self.kept / block
         self.hz_per_bin = float(rate) / block
         middle = round(centre / self.hz_per_bin)
@@ -56,8 +50,8 @@ class Passband:
         beside = numpy.arange(-self._reached, self._reached + 1) * self.hz_per_bin
         # A station may be off by a part of a bin's width, but not the carrier of RDS.
         self.centre = Fraction(centre) if is_real else middle * rate / block
-        gain = self.kept / block * (2 if is_real else 1)
-        passed = response(beside + middle * self.hz_per_bin - float(self.centre)) * gain
+        passed = gain(beside + middle * self.hz_per_bin - float(self.centre))
+        passed *= self.kept / block * (2 if is_real else 1)
         self._response = passed.astype("f8" if is_real else "f4")
         turns = float(self.centre / rate - Fraction(middle, block)) * block / self.kept
         self._turn = numpy.exp(-2j * math.pi * turns * numpy.arange(self.kept)) if is_real else None

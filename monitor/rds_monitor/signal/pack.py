@@ -186,14 +186,31 @@ def options_pack(parser: argparse.ArgumentParser) -> None:
         parser.add_argument(name, help=text, **how)
 
 
-class BinaryOutput:
-    """A file, or standard output. It is begun with its first byte, and has all bytes at once."""
+class Packer:
+    """Makes bytes of bits, eight to a byte: those that do not fill one wait. Without `packs` each has a byte already."""
 
-    def __init__(self, path: str):
-        self._path = path
+    def __init__(self, packs: bool):
+        self._packs = packs
+        self._rest: Bits = numpy.zeros(0, "u1")
+
+    def push(self, bits: Bits, last: bool = False) -> bytes:
+        if self._packs:
+            bits = numpy.concatenate([self._rest, bits])
+            whole = bits.size if last else bits.size // 8 * 8
+            self._rest, bits = bits[whole:], numpy.packbits(bits[:whole])
+        return bits.tobytes()
+
+
+class BitWriter:
+    """Writes bits, packed or a byte each, or symbols: to a file that begins with its first byte, or standard output, at once."""
+
+    def __init__(self, path: str, packs: bool):
+        self._path, self._packer, self.written = path, Packer(packs), 0
         self._stream: Optional[BinaryIO] = sys.stdout.buffer if path == "-" else None
 
-    def write(self, data: bytes) -> None:
+    def push(self, bits: Bits, last: bool = False) -> None:
+        self.written += bits.size
+        data = self._packer.push(bits, last)
         if data:
             self._stream = self._stream or open(self._path, "wb")
             self._stream.write(data)
@@ -207,10 +224,11 @@ def run_pack(arguments: argparse.Namespace) -> int:
         raise Misuse("--differential is for bits: those of symbols are decoded")
     change = Conversion(arguments.lsb_first, arguments.invert, arguments.differential)
     stream = sys.stdin.buffer if arguments.input == "-" else open(arguments.input, "rb")
-    output, bits = BinaryOutput(arguments.output), 0
-    for data, count in packed_of(bits_of(stream, arguments.form, change)):
-        output.write(data)
-        bits += count
+    writer = BitWriter(arguments.output, True)
+    for part in bits_of(stream, arguments.form, change):
+        writer.push(part)
+    writer.push(numpy.zeros(0, "u1"), last=True)
+    bits = writer.written
     if not bits:
         raise Fault("there is no bit in the input")
     if bits % 8:

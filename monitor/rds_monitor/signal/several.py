@@ -13,7 +13,8 @@ import numpy
 from ..rows.items import Fault
 from .centre import frequency_of, frequency_text
 from .found import HALF_CHANNEL_HZ, SETTLED, Spectrum, candidates, is_inside, spectrum_of, with_rds
-from .outputs import BitWriter, Packer, QualityLine, report_of
+from .outputs import QualityLine, report_of
+from .pack import BitWriter, Packer
 from .receiver import Capture, Receiver
 from .samples import SampleSource, Signal, beginning_of
 from .symbols import Bits

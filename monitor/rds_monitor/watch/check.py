@@ -134,7 +134,7 @@ def open_end(paths: Sequence[str], last: Optional[float], arguments: argparse.Na
         part = last is not None or all(map(hour_of, paths))
         how = Reading(unfinished_ok=part, length=length, trust_length=True, sessions=True)
         return Listing(data, b"", how)
-    return Recording(data, b"", Reading(rules_of(arguments)))
+    return Recording(data, b"", Reading(rules_of(arguments)), None, None)
 
 
 Opened = Tuple[bytes, Readable]  # the first bytes of an input, and the rest
