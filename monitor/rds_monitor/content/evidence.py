@@ -67,8 +67,7 @@ NONE_SEEN = Observations(*(numpy.empty(0, kind) for kind in ("i8", "i8", "i8", "
 
 
 class PartState(NamedTuple):
-    """What is known of a part: the value received last and whether valid blocks brought it; what counted last, and in
-    which state of its message."""
+    """A part's value received last and whether valid blocks brought it; what counted last, and in which state of its message."""
 
     last: int
     trusted: bool
@@ -141,8 +140,7 @@ class Evidence:
         return numpy.repeat(is_open, sizes)
 
     def _note(self, seen: Observations, other: Array, latest: Array, is_trusted: bool) -> None:
-        """Notes the value received last of a part that has no news, and whether it is trusted: by the latest group of each
-        that is unlike the others."""
+        """Notes the last value of a part without news, and whether it is trusted: by the latest group of each unlike the others."""
         name, at = int(seen.key[0]), latest[seen.at]
         last_other = at[other].max(initial=-1)
         trusted = (at[seen.sound & ~other] > last_other).any() or is_trusted and last_other < 0

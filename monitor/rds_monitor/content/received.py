@@ -255,8 +255,7 @@ class Received:
                 yield Observations(key, rows, ones.astype("i8"), groups.alike.whole[rows], ones)
 
     def _tags(self, groups: Groups, kind: Kind, others: Array) -> News:
-        """The tags of RadioText Plus that count: the same ones are of each text in turn, and are news again after other groups,
-        in which texts changed."""
+        """The tags of RadioText Plus that count: the same ones are of each text in turn, and are news again after changes of texts."""
         seen = self._seen(groups, kind)
         first, second = fields_of("rtplus", seen.value, "class1 class2")
         seen = seen._replace(key=key_of(kind, 0, first << 6 | second))

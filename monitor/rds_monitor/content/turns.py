@@ -59,8 +59,7 @@ class Shape(NamedTuple):
 
 
 class Distinct:
-    """Segments that are unlike each other: their numbers, and a column per pair of its value and whether it is valid, with
-    UNKNOWN for one that was not received."""
+    """Segments that are unlike each other: their numbers, and a column per pair of its value and validity, UNKNOWN for one not received."""
 
     def __init__(self, segment: Array, value: Array, valid: Array) -> None:
         self.segment, self.value, self.valid = segment, value, valid
@@ -299,8 +298,7 @@ class Message:
     # ---- while the text that was told holds
 
     def _pass(self, turns: Turns, begin: int, end: int, told: WholeText) -> Tuple[int, List[int]]:
-        """Passes the first of these rows if they say the told text again: where it ends, and in which of them the text ended
-        early, and was whole again at once."""
+        """Passes rows that say the told text again: where they end, and in which of them it ended early and was whole again at once."""
         other = turns.said.others(told, self._length == told.size)[turns.number[begin:end]]
         cuts = turns.restarts
         if cuts.size:
@@ -323,8 +321,7 @@ class Message:
         return end, cuts.tolist()
 
     def _are_kept(self, turns: Turns, rows: slice, cuts: Array, told: WholeText) -> Array:
-        """Whether the told text has an end, and before each of these rows no turn was missed, and all of its pairs
-        came lately, in segments that were received."""
+        """Whether the told text has an end, and before each row no turn was missed, and all its pairs came lately, in received segments."""
         pairs, size = {**self._earlier, **self._now}, self._shape.pairs
         kept: Array = ~turns.missed[cuts] & told.has_end
         if not kept.any():
@@ -434,8 +431,7 @@ class Message:
         self._last_segment, self._length = UNKNOWN, 0
 
     def _end_turn(self, is_complete: bool) -> None:
-        """The end of a turn. If it `is_complete`, no segment came after the last that was heard: two such turns in a
-        row that end alike have the length of the text."""
+        """The end of a turn; if it `is_complete`, with its last segment. Two such in a row that end alike have the text's length."""
         if self._shape.is_text and is_complete:
             ends_alike = self._segment == self._last_segment
             self._length = (self._segment + 1) * self._shape.pairs if ends_alike else 0

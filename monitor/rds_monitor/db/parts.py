@@ -168,8 +168,7 @@ def mixes_of(rows: Rows, minutes: Rows) -> Rows:
     """Groups by type in each of some minutes, whose numbers from 0 on are those of the rows."""
     index = (minutes * TYPES + type_index(rows))[rows["what"] == GROUP]
     count = int(minutes[-1]) + 1
-    found: Rows = numpy.bincount(index, minlength=count * TYPES).reshape(count, TYPES)
-    return found
+    return numpy.bincount(index, minlength=count * TYPES).reshape(count, TYPES)
 
 
 def counts_of(mix: Rows) -> Dict[str, int]:
@@ -178,8 +177,7 @@ def counts_of(mix: Rows) -> Dict[str, int]:
 
 
 class Session:
-    """A session of an input as one part; `totals` are known once it is closed, if they are at all, and so is whether soft decisions
-    corrected its blocks."""
+    """A session of an input as one part. Once closed it has `totals`, if at all, and whether soft decisions corrected its blocks."""
 
     def __init__(self, number: int, clock: Clock, is_soft: bool, begin: int = 0):
         self.number, self.clock, self.is_soft = number, clock, is_soft

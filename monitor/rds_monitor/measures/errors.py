@@ -73,8 +73,7 @@ class Errors:
         group = numpy.maximum(numpy.searchsorted(groups["place"], edges) - 1, 0)
         blocks = numpy.ceil((edges - places_of(groups[group])[:, 0]) / BLOCK_BITS)
         within = 4 * group + numpy.clip(blocks, 0, 4).astype("i8")
-        cuts: Rows = numpy.concatenate([[0], within, [4 * len(groups)]])
-        return cuts
+        return numpy.concatenate([[0], within, [4 * len(groups)]])
 
     def row(self, number: int) -> List[int]:
         """Of an interval: where its last block ends, and how many are uncorrectable, valid, and corrected."""

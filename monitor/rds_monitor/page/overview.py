@@ -12,8 +12,7 @@ POINTS = 96
 
 
 class Span(NamedTuple):
-    """Blocks of a session: the seconds from the station's first bit to the session's, and for each `step` seconds
-    those sent and those valid."""
+    """Blocks of a session: the seconds from the station's first bit to its own, and for each `step` seconds those sent and those valid."""
 
     begin: float
     step: int

@@ -220,8 +220,7 @@ class StoredStation:
         return found
 
     def _busy(self, line: TimeLine, numbers: str, step: int) -> Tuple[List[str], List[int]]:
-        """Of items that change too often to be listed the columns of minutes, whose texts at the ends of minutes are looked at, and the
-        facts."""
+        """Of items that change too often to be listed the columns of minutes, whose texts are looked at, and the facts."""
         counts: "Counter[str]" = Counter()
         facts: Dict[str, List[int]] = {}
         for fact, count in self._stored.rows(COUNTS_OF_FACTS, numbers) if step >= 3600 else ():

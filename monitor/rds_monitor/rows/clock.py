@@ -1,5 +1,4 @@
-"""When a bit was received: bit positions as seconds and as UTC, by the start and the rate of a recording, or by the
-clock time (CT) that its station sends."""
+"""When a bit was received: positions as seconds and as UTC, by a recording's start and rate, or by the clock time (CT) of its station."""
 
 import argparse
 import datetime

@@ -98,8 +98,7 @@ class _Lines:
 
 
 def parse(lines: bytes) -> Tuple[Rows, Optional[Bad]]:
-    """The rows of whole lines, each ended by a line feed, up to the first bad one, and that one. A row of a total has
-    nothing but its kind."""
+    """The rows of whole lines, each ended by a line feed, up to the first bad one, and that one. Of a total a row has only its kind."""
     text = _Lines(lines)
     rows = numpy.zeros(text.count, ITEM)
     if text.count:

@@ -15,8 +15,7 @@ def around(segments: Reals, reach: int) -> Reals:
     """Sums of the segments up to `reach` on both sides, of all but the `AMPLITUDE_REACH` at both ends."""
     beside = AMPLITUDE_REACH - reach
     inner = segments[beside : segments.size - beside]
-    sums: Reals = numpy.convolve(inner, numpy.ones(2 * reach + 1), "valid")
-    return sums
+    return numpy.convolve(inner, numpy.ones(2 * reach + 1), "valid")
 
 
 class SoftSymbols:

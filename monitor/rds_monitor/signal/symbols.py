@@ -31,8 +31,7 @@ class Clocked(NamedTuple):
 
 
 class ChipClock:
-    """Takes a sample at each chip. The power of the signal, which is 0 between two unlike chips, has a line at the
-    chip rate, whose phase is that of the chips."""
+    """Takes a sample at each chip. The signal's power, 0 between two unlike chips, has a line at the chip rate in the chips' phase."""
 
     CHIPS_PER_SEGMENT = 64
     REACH, WIDE = 14, 20  # segments of 27 ms

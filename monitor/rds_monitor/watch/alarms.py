@@ -133,8 +133,7 @@ class Alarms:
         }
 
     def resume(self, lasting: Dict[str, Tuple[str, float]], counted: Dict[str, Any], away: float) -> None:
-        """Alarms that lasted when the last watch ended, with their seconds, and all that it counted. No watch was there for `away`
-        seconds."""
+        """Alarms that lasted when the last watch ended, with their seconds, and all that it counted, `away` seconds ago."""
         for name, (text, seconds) in lasting.items():
             if name in self._alarms:
                 self._alarms[name].text = self.lasting[name] = text

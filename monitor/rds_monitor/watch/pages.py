@@ -73,8 +73,7 @@ def write_pages(
     data: sqlite3.Connection,
     refresh: int,
 ) -> None:
-    """Writes all pages, each by renaming a new file, and removes those of stations that the table had once. `lasting` are the alarms of
-    the watch."""
+    """Writes all pages, and removes those of stations that the table had once. `lasting` are the alarms of the watch."""
     os.makedirs(folder, exist_ok=True)
     for (name,) in data.execute("SELECT station FROM station_rows").fetchall():
         if name not in states and os.path.exists(os.path.join(folder, f"{name}.html")):

@@ -30,8 +30,7 @@ class PartOpened(NamedTuple):
 
 
 class PartGrew(NamedTuple):
-    """The part's rows up to this byte of its file are told, and its bits up to this position. At its end `closed`, and of the
-    session the totals."""
+    """The rows up to this byte of the file, and the bits up to this position, are told. At the end `closed`; of the session totals."""
 
     key: PartKey
     end: int

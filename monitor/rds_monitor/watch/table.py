@@ -13,8 +13,7 @@ from ..signal.receiver import RATES
 
 @dataclass(frozen=True)
 class AlarmLimits:
-    """When alarms begin: seconds, but sessions an hour for `flapping`, minutes for `errors`, and a number of groups for `ct`. None turns
-    one off."""
+    """When alarms begin: seconds, but sessions an hour for `flapping`, minutes for `errors`, and groups for `ct`. None turns one off."""
 
     silent: Optional[float] = 15
     no_rds: Optional[float] = 10
