@@ -2,8 +2,7 @@
 """A simulated wideband receiver: u8 IQ of several FM stations, over and over, in real time: capture.py --keep FILE > iq.u8
 
 Each station sends pilot, a tone and RDS. The part that is repeated has whole groups, and whole cycles of all carriers, so no bit is lost
-where it begins again. It is made in some seconds, and kept in FILE.
-"""
+where it begins again. It is made in some seconds, and kept in FILE."""
 
 from __future__ import annotations
 
@@ -68,11 +67,8 @@ def spectrum_of(station: OnAir, number: int) -> Any:
     data = baseband(station.programme)
     times = 2 * numpy.pi * numpy.arange(data.size) / NARROW
     tone = round((400 + 100 * number) * SECONDS) / SECONDS
-    mpx = (
-        0.5 * numpy.sin(tone * times)
-        + 0.09 * numpy.sin(19000 * times)
-        + 0.03 * data * numpy.sin(57000 * times)
-    )
+    sines = [numpy.sin(hertz * times) for hertz in (tone, 19000, 57000)]
+    mpx = 0.5 * sines[0] + 0.09 * sines[1] + 0.03 * data * sines[2]
     phases = numpy.cumsum(mpx - mpx.mean()) * (2 * numpy.pi * DEVIATION_HZ / NARROW)
     return 10 ** (station.level / 20) * numpy.fft.fft(numpy.exp(1j * phases))
 

@@ -7,8 +7,7 @@ comes for half an hour of each three. The other four are in the band of one rece
 The addresses are printed: of a page of the three once it shows them, of a picture of the capture's spectrum, and of a page of the four.
 The pages go on until this is interrupted, or for N seconds.
 
-It decodes as rds-monitor does. If there is no decoder, it builds rds without proof, in a minute or so.
-"""
+It decodes as rds-monitor does. If there is no decoder, it builds rds without proof, in a minute or so."""
 
 from __future__ import annotations
 
@@ -38,9 +37,7 @@ STATIONS = (
     ("Gamma", 103.7, "D31A", "GAMMA", "News at the hour", "--dies 5400 --wrong-pi 10800:1800"),
 )
 
-
-# What the receiver of several stations plays.
-PLAYED = "capture_98MHz.u8"
+PLAYED = "capture_98MHz.u8"  # what the receiver of several stations plays
 SAMPLES = ["--raw", "u8", "--rate", str(capture.WIDE)]
 
 

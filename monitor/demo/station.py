@@ -5,8 +5,7 @@
 
 Group N of a station is the same whoever receives it: it begins N / 11.418 seconds after 1970. Each sixth group has its number (6A).
 --errors is the rate of wrong bits. --outage is noise for the last SECONDS of every EVERY seconds. --dies ends the program after some
-seconds of the station, --hangs lets it go on without output, --wrong-pi is another PI for some seconds, like an outage.
-"""
+seconds of the station, --hangs lets it go on without output, --wrong-pi is another PI for some seconds, like an outage."""
 
 from __future__ import annotations
 
@@ -76,8 +75,6 @@ def clock_words(minutes: int, common: int) -> Tuple[int, int, int]:
     return 4 << 12 | common | day >> 15, (day & 0x7FFF) << 1 | hour >> 4, (hour & 15) << 12 | minute << 6
 
 
-# ---- bits
-
 # x^10 + x^8 + x^7 + x^5 + x^4 + x^3 + 1, and the offset words A, B, C and D.
 GENERATOR, OFFSETS = 0x5B9, (0x0FC, 0x198, 0x168, 0x1B4)
 
@@ -104,9 +101,6 @@ def encoded(groups: Iterable[Words]) -> bytes:
             group = group << 26 | word << 10 | HIGH[word >> 8] ^ LOW[word & 0xFF] ^ offset
         data += group.to_bytes(GROUP_BYTES, "big")
     return bytes(data)
-
-
-# ---- the program
 
 
 class Air:

@@ -1,11 +1,7 @@
 """A folder of recordings into a folder of listings, by GNU parallel: the command `batch`.
 
-The recordings get numbers as names in a folder of this batch, so that whatever is in their own names reaches no
-shell. A listing is made there, and renamed into its place once it is whole. While a batch is at work it holds a lock,
-which its jobs inherit.
-"""
-
-from __future__ import annotations
+The recordings get numbers as names in a folder of this batch, so that whatever is in their own names reaches no shell. A listing is made
+there, and renamed into its place once it is whole. While a batch is at work it holds a lock, which its jobs inherit."""
 
 import argparse
 import fcntl
@@ -69,9 +65,6 @@ def options_batch(parser: argparse.ArgumentParser) -> None:
     parser.add_argument("parallel", nargs=argparse.REMAINDER, metavar="OPTION", help=text)
 
 
-# ---- folders
-
-
 def locked(folder: str, wait: bool) -> IO[bytes]:
     """The lock of a folder of listings. It goes when the last process that has it ends, however it ends."""
     file = open(os.path.join(folder, LOCK), "ab")
@@ -104,9 +97,6 @@ def told(path: str) -> str:
     return path if path.isprintable() else repr(path)
 
 
-# ---- jobs
-
-
 def job_text(arguments: argparse.Namespace, program: str) -> str:
     """The command of a job, by its number: a listing, and a line with the number, the status and what was said."""
     options = " ".join(map(shlex.quote, shlex.split(arguments.options)))
@@ -131,19 +121,14 @@ def copies(arguments: argparse.Namespace) -> bool:
     return not arguments.shared and any(map(names.match, arguments.parallel))
 
 
-def parallel_words(arguments: argparse.Namespace, text: str) -> List[str]:
-    words = ["parallel", "--will-cite", "--workdir", "."]
-    if copies(arguments):
-        words[-1] = "..."
-        words += ["--transferfile", "{}.in", "--return", "{}.csv", "--cleanup"]
-    return [*words, *arguments.parallel, text]
-
-
 def run_jobs(
     arguments: argparse.Namespace, work: str, count: int, lock: IO[bytes]
 ) -> Iterator[Tuple[int, int, str]]:
     """The number, the status and the words of each job as it ends."""
-    words = parallel_words(arguments, job_text(arguments, rds_program()))
+    words = ["parallel", "--will-cite", "--workdir", "..." if copies(arguments) else "."]
+    if copies(arguments):
+        words += ["--transferfile", "{}.in", "--return", "{}.csv", "--cleanup"]
+    words += [*arguments.parallel, job_text(arguments, rds_program())]
     signal.signal(signal.SIGPIPE, signal.SIG_IGN)
     # rsync follows the links to the recordings.
     environment = {**os.environ, "PARALLEL_RSYNC_OPTS": "-rLDzR", "PARALLEL_SHELL": "/bin/sh"}
@@ -154,8 +139,7 @@ def run_jobs(
         process.stdin.write("".join(f"{number}\n" for number in range(count)).encode())
         process.stdin.close()
     except BrokenPipeError:
-        # It ended at once: the recordings are named as not decoded.
-        pass
+        pass  # it ended at once: the recordings are named as not decoded
     for line in process.stdout:
         match = re.fullmatch(rb"([0-9]+) ([0-9]+) (.*)\n", line)
         if match:
@@ -183,9 +167,6 @@ def fault_of(made: str, status: int, said: str) -> Optional[str]:
 def has_station(made: str) -> bool:
     match = COMPLETE.search(end_of(made))
     return match is not None and int(match[1]) >= LEAST
-
-
-# ---- the command
 
 
 class BatchRun:

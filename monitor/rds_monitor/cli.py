@@ -1,10 +1,7 @@
 """The command `rds-monitor`: its sub-commands, their common options, exit statuses and errors.
 
-A sub-command NAME of a module has two functions there: `options_NAME(parser)` adds its options, and
-`run_NAME(arguments)` returns its exit status. Its line in `COMMANDS` is all that this file says of it.
-"""
-
-from __future__ import annotations
+A sub-command NAME of a module has two functions there: `options_NAME(parser)` adds its options, and its docstring has the description and,
+after an empty line, examples; `run_NAME(arguments)` returns its exit status. Its line in `COMMANDS` is all that this file says of it."""
 
 import argparse
 import ctypes
@@ -26,13 +23,15 @@ class Command(NamedTuple):
     summary: str
 
     def options(self, parser: argparse.ArgumentParser) -> None:
-        getattr(self._module(), f"options_{self.name}")(parser)
+        add = self.function("options")
+        if add.__doc__:
+            told, _, examples = "\n".join(map(str.strip, add.__doc__.splitlines())).partition("\n\n")
+            parser.description = told.replace("\n", " ")
+            parser.epilog = "\n  ".join(["example:", *examples.splitlines()])
+        add(parser)
 
-    def run(self, arguments: argparse.Namespace) -> int:
-        return int(getattr(self._module(), f"run_{self.name}")(arguments))
-
-    def _module(self) -> Any:
-        return importlib.import_module(f"rds_monitor.{self.module}")
+    def function(self, of: str) -> Any:
+        return getattr(importlib.import_module(f"rds_monitor.{self.module}"), f"{of}_{self.name}")
 
 
 COMMANDS = (
@@ -60,8 +59,7 @@ COMMANDS = (
 
 
 class Parser(argparse.ArgumentParser):
-    """Errors are lines `rds-monitor NAME: the fault`, then the usage, with status 2; a command may have a way of its
-    own."""
+    """Errors are lines `rds-monitor NAME: the fault`, then the usage, with status 2; a command may have a way of its own."""
 
     on_error: Optional[Callable[[str], NoReturn]] = None
 
@@ -105,19 +103,16 @@ def chosen(words: Sequence[str]) -> Optional[Command]:
         sys.stdout.write(overview())
         return None
     if words[0] in ("-V", "--version"):
-        print(f"rds-monitor {__version__}", f"decoder: {decoder_in_use()}", sep="\n")
+        try:
+            decoder = importlib.import_module("rds_monitor.rows.decoders").decoder_of()[1]
+        except Fault as error:
+            decoder = f"none: {error}"
+        print(f"rds-monitor {__version__}", f"decoder: {decoder}", sep="\n")
         return None
     found = next((command for command in COMMANDS if command.name == words[0]), None)
     if not found:
         raise Misuse(f"there is no command {words[0]!r}: rds-monitor --help lists them")
     return found
-
-
-def decoder_in_use() -> str:
-    try:
-        return str(importlib.import_module("rds_monitor.rows.decoders").decoder_of()[1])
-    except Fault as error:
-        return f"none: {error}"
 
 
 def main(words: Optional[Sequence[str]] = None) -> int:
@@ -133,13 +128,11 @@ def main(words: Optional[Sequence[str]] = None) -> int:
         name = f"rds-monitor {command.name}"
         arguments = parser_of(command).parse_args(words[1:])
         take_hour(arguments)
-        status = command.run(arguments)
+        status = int(command.function("run")(arguments))
         sys.stdout.flush()
         return status
-    except Misuse as error:
-        return _say(name, str(error), 2)
     except Fault as error:
-        return _say(name, str(error), 1)
+        return _say(name, str(error), 2 if isinstance(error, Misuse) else 1)
     except OSError as error:
         # The output may be the fault: what Python still holds of it is not tried again.
         os.dup2(os.open(os.devnull, os.O_WRONLY), 1)
@@ -149,8 +142,7 @@ def main(words: Optional[Sequence[str]] = None) -> int:
 
 
 def tune_memory() -> None:
-    """Keeps memory that was given back, since each chunk asks for as much again: a tenth of the time goes into new
-    pages else."""
+    """Keeps memory that was given back, since each chunk asks for as much again: a tenth of the time goes into new pages else."""
     try:
         library = ctypes.CDLL(None)
         for name in (-1, -3):

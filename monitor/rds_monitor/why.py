@@ -1,7 +1,5 @@
 """Why `rds` refused an input, or decoded little of it: the line, byte or gap at fault, or blocks that are not decoded."""
 
-from __future__ import annotations
-
 import argparse
 import re
 import signal
@@ -20,16 +18,13 @@ DIGITS = b"0123456789ABCDEFabcdef"
 
 
 def options_why(parser: argparse.ArgumentParser) -> None:
-    parser.description = (
-        "Runs rds with the same words and the same input, and tells where the fault is: for 12 GroupText each line that is no group, for "
-        "11 HexText the first byte that is no digit, for 16 BadGaps the gap, for 4 BitsPastBytes how many bits there are. Of bits "
-        "that are not refused it tells how many blocks have offset word E of RBDS, which is not decoded. The exit status "
-        "is that of rds. RDS names the program (rds)."
-    )
-    parser.epilog = (
-        "example:\n  rds-monitor why encode < groups.txt\n"
-        "  rds-monitor why list --hex --gaps=104-105,100-130 < recording.hex"
-    )
+    """Runs rds with the same words and the same input, and tells where the fault is: for 12 GroupText each line that is no group, for 11
+    HexText the first byte that is no digit, for 16 BadGaps the gap, for 4 BitsPastBytes how many bits there are. Of bits that are not
+    refused it tells how many blocks have offset word E of RBDS, which is not decoded. The exit status is that of rds. RDS names the program
+    (rds).
+
+    rds-monitor why encode < groups.txt
+    rds-monitor why list --hex --gaps=104-105,100-130 < recording.hex"""
     text = "the words that rds was called with"
     parser.add_argument("words", metavar="WORD", nargs=argparse.REMAINDER, help=text)
 
@@ -40,9 +35,7 @@ def run_why(arguments: argparse.Namespace) -> int:
     # rds may refuse before it has read all: then the pipe is closed, which is no end of this command.
     signal.signal(signal.SIGPIPE, signal.SIG_IGN)
     try:
-        ran = subprocess.run(
-            [program, *words], input=held, stdout=subprocess.DEVNULL, stderr=subprocess.PIPE, check=False
-        )
+        ran = subprocess.run([program, *words], input=held, stdout=subprocess.DEVNULL, stderr=subprocess.PIPE)
     except OSError as error:
         raise Fault(f"{program}: {error.strerror}") from None
     said = ran.stderr.decode("utf-8", "replace")

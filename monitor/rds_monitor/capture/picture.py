@@ -1,10 +1,8 @@
 """The spectrum of a capture with its stations marked, as a page of HTML without scripts."""
 
-from __future__ import annotations
-
 import math
 from html import escape
-from typing import Iterator, Sequence
+from typing import Iterator, List, Sequence
 
 import numpy
 
@@ -23,23 +21,20 @@ STYLE = """
 
 
 def picture_of(
-    spectrum: Spectrum,
-    tuning: Tuning,
-    marks: Sequence[float],
-    head: Sequence[str],
-    rows: Sequence[Sequence[str]],
+    spectrum: Spectrum, tuning: Tuning, marks: List[float], head: Sequence[str], rows: Sequence[Sequence[str]]
 ) -> str:
     """`marks` are the stations' offsets from the centre, `rows` their rows of the table."""
     css = read("report.css") + STYLE
     policy = f"default-src 'none'; style-src '{hash_of(css)}'; base-uri 'none'; form-action 'none'"
     rate = float(spectrum.offsets[1] - spectrum.offsets[0]) * spectrum.offsets.size
     around = tuning.text(0.0) if tuning.is_known else "the centre"
+    drawn = Drawing(spectrum).text(marks, rows)
     title = f"{len(rows)} stations in {rate / 1e6:.6g} MHz around {around}"
     return (
         f'<!DOCTYPE html>\n<html lang="en"><head><meta charset="utf-8"><title>{escape(title)}</title>\n'
         f'<meta http-equiv="Content-Security-Policy" content="{policy}">\n'
         f'<meta name="viewport" content="width=device-width, initial-scale=1">\n<style>{css}</style></head>\n'
-        f'<body><h1>{escape(title)}</h1>\n<div class="chart spectrum">{_drawn(spectrum, marks, rows)}</div>\n'
+        f'<body><h1>{escape(title)}</h1>\n<div class="chart spectrum">{drawn}</div>\n'
         f'<div class="wide">{_table(head, rows)}</div></body></html>\n'
     )
 
@@ -48,7 +43,10 @@ class Drawing:
     """The parts of the picture, in its own units."""
 
     def __init__(self, spectrum: Spectrum):
-        self._decibels = 10 * numpy.log10(numpy.maximum(_fewer(spectrum.power), 1e-20))
+        # Mean powers, at most a point per column of pixels.
+        power, each = spectrum.power, -(-spectrum.power.size // WIDTH)
+        means: Reals = power[: power.size // each * each].reshape(-1, each).mean(axis=1)
+        self._decibels = 10 * numpy.log10(numpy.maximum(means, 1e-20))
         self._first, last = float(spectrum.offsets[0]), float(spectrum.offsets[-1])
         self._span = last - self._first
         self._bottom = RANGE_DB * math.floor(float(self._decibels.min()) / RANGE_DB)
@@ -73,25 +71,16 @@ class Drawing:
             yield f'<text x="{x:.1f}" y="{HEIGHT + below}" text-anchor="middle">{escape(row[0])}</text>'
             yield f'<text x="{x + 3:.1f}" y="{below}">{escape(name)}</text>'
 
+    def text(self, marks: Sequence[float], rows: Sequence[Sequence[str]]) -> str:
+        parts = "".join([*self.grid(), *self.marks(marks, rows), self.line()])
+        label = f"the mean power by frequency, in dB of full scale, with {len(rows)} stations"
+        shape = f'viewBox="0 0 {WIDTH} {HEIGHT + LINE * LINES + 4}" role="img" aria-label="{escape(label)}"'
+        return f"<svg {shape}>{parts}</svg>"
+
     def line(self) -> str:
         step, levels = WIDTH / (self._decibels.size - 1), self._decibels.tolist()
         points = " ".join(f"{step * n:.1f},{self._y(level):.1f}" for n, level in enumerate(levels))
         return f'<polyline points="{points}"/>'
-
-
-def _drawn(spectrum: Spectrum, marks: Sequence[float], rows: Sequence[Sequence[str]]) -> str:
-    drawing = Drawing(spectrum)
-    parts = "".join([*drawing.grid(), *drawing.marks(marks, rows), drawing.line()])
-    label = f"the mean power by frequency, in dB of full scale, with {len(rows)} stations"
-    shape = f'viewBox="0 0 {WIDTH} {HEIGHT + LINE * LINES + 4}" role="img" aria-label="{escape(label)}"'
-    return f"<svg {shape}>{parts}</svg>"
-
-
-def _fewer(power: Reals) -> Reals:
-    """Mean powers, at most a point per column of pixels."""
-    each = -(-power.size // WIDTH)
-    means: Reals = power[: power.size // each * each].reshape(-1, each).mean(axis=1)
-    return means
 
 
 def _table(head: Sequence[str], rows: Sequence[Sequence[str]]) -> str:

@@ -1,7 +1,5 @@
 """The FM stations with RDS of a capture of IQ: the command `stations`."""
 
-from __future__ import annotations
-
 import argparse
 import json
 import sys
@@ -15,10 +13,9 @@ from ..content.jsonl import set_utf8
 from ..rows.clock import number_of
 from ..rows.decoders import decode, decoder_of
 from ..rows.items import Fault, Misuse
-from ..signal.demod import hertz
+from ..signal.demod import OPTIONS, hertz, open_signal
 from ..signal.found import Spectrum
-from ..signal.receiver import RATES
-from ..signal.samples import RAW_FORMS, SampleSource, open_samples
+from ..signal.samples import SampleSource
 from ..signal.several import TunedStation, TunedStations, Tuning
 from ..signal.symbols import Bits
 from .picture import picture_of
@@ -67,10 +64,9 @@ def options_stations(parser: argparse.ArgumentParser) -> None:
     parser.description, parser.epilog = DESCRIPTION, EXAMPLES
     text = "the capture (default: standard input)"
     parser.add_argument("input", nargs="?", default="-", metavar="CAPTURE", help=text)
-    text = "raw samples, low byte first: f32 floating point, s16 integers, u8 around 127.5"
-    parser.add_argument("--raw", choices=RAW_FORMS, help=text)
-    text = "samples per second: of raw samples, or in place of the header's"
-    parser.add_argument("--rate", type=int, metavar="N", help=text)
+    for name in ("--raw", "--rate"):
+        how, text = OPTIONS[name]
+        parser.add_argument(name, help=text, **how)
     parser.add_argument("--centre", type=hertz, metavar="HZ", help="the frequency of the centre, such as 98M")
     text = "look at this many seconds (%(default)g)"
     parser.add_argument("--seconds", type=number_of, default=SECONDS, metavar="N", help=text)
@@ -83,9 +79,7 @@ def run_stations(arguments: argparse.Namespace) -> int:
     if arguments.raw and arguments.rate is None:
         raise Misuse("--raw needs --rate")
     decoder_of()
-    source = open_samples(arguments.input, raw=arguments.raw, rate=arguments.rate, channel=None, is_iq=True)
-    if source.rate not in RATES:
-        raise Fault(f"a sample rate of {source.rate} is not {RATES[0]} to {RATES[-1]}")
+    source = open_signal(arguments, None, True)
     tuning = Tuning(source.centre if arguments.centre is None else arguments.centre, source.rate)
     spectrum, stations, fault = stations_in(source, tuning, arguments.seconds)
     set_utf8()
@@ -97,7 +91,11 @@ def run_stations(arguments: argparse.Namespace) -> int:
         for station in stations:
             print(json.dumps(station._asdict(), ensure_ascii=False))
     elif stations:
-        print_table([texts_of(station, tuning) for station in stations])
+        table = [HEAD, *(texts_of(station, tuning) for station in stations)]
+        widths = [max(map(len, column)) for column in zip(*table)]
+        for row in table:
+            numbers = (f"{text:>{width}}" for text, width in zip(row[:-1], widths))
+            print("  ".join([*numbers, row[-1]]))
     if fault:
         raise fault
     if not stations:
@@ -132,8 +130,6 @@ def seen(station: TunedStation, bits: KeptBits) -> StationSeen:
     return StationSeen(station.frequency, report["level_dbfs"], report["snr_db"], *texts)
 
 
-# ---- the table
-
 HEAD = ("frequency", "level dBFS", "SNR dB", "PI", "PS")
 
 
@@ -142,10 +138,3 @@ def texts_of(station: StationSeen, tuning: Tuning) -> Sequence[str]:
         return "-" if value is None else printable(str(value))
 
     return (tuning.text(station.frequency - tuning.centre), *map(text, station[1:]))
-
-
-def print_table(rows: Sequence[Sequence[str]]) -> None:
-    widths = [max(map(len, column)) for column in zip(HEAD, *rows)]
-    for row in (HEAD, *rows):
-        *numbers, pi, ps = (f"{text:>{width}}" for text, width in zip(row, widths))
-        print("  ".join([*numbers, pi, row[-1]]))

@@ -1,15 +1,12 @@
 """The basic character set of RDS (IEC 62106, Annex E, table E.1), and text that is safe to print.
 
 RBDS has the same set. A code below 0x20 is a control: 0x0A a preferred line break, 0x0B the end of a headline, 0x0D the
-end of the text, and 0x1F a soft hyphen. The table leaves 0x7F and 0xFF empty: they are shown as blanks.
-"""
-from __future__ import annotations
-
+end of the text, and 0x1F a soft hyphen. The table leaves 0x7F and 0xFF empty: they are shown as blanks."""
 import json
 import re
 import unicodedata
 from functools import lru_cache
-from typing import Any
+from typing import Any, Callable
 
 LINE_BREAK, END_OF_HEADLINE, END_OF_TEXT, SOFT_HYPHEN = 0x0A, 0x0B, 0x0D, 0x1F
 
@@ -46,7 +43,6 @@ _CHARACTERS = tuple(character(code) for code in range(256))
 
 @lru_cache(4096)
 def decode(codes: bytes) -> str:
-    """The characters of codes."""
     return "".join([_CHARACTERS[code] for code in codes])
 
 
@@ -71,17 +67,21 @@ def _marks(text: str) -> list[bool]:
     return found
 
 
+def _with(escape: Callable[[str], str], text: str) -> str:
+    """With its unsafe characters escaped."""
+    signs = zip(text, _marks(text))
+    return "".join([escape(sign) if bad or _is_unsafe(sign) else sign for sign, bad in signs])
+
+
 def printable(text: str) -> str:
     """The text in one line that is safe on a terminal.
 
     Escaped by a backslash, as in Python, are controls, marks that turn the direction of writing, combining marks beyond
-    two on a letter, and a backslash.
-    """
+    two on a letter, and a backslash."""
     text = text.replace("\\", "\\\\")
     if text.isascii() and text.isprintable():
         return text
-    signs = zip(text, _marks(text))
-    return "".join([_escaped(sign) if bad or _is_unsafe(sign) else sign for sign, bad in signs])
+    return _with(_escaped, text)
 
 
 _ENCODER = json.JSONEncoder(ensure_ascii=False, separators=(",", ":"))
@@ -92,13 +92,6 @@ def safe_json(value: Any) -> str:
     text = _ENCODER.encode(value)
     if text.isascii() and text.isprintable():
         return text
-    return _RUN.sub(_safe_run, text)
-
-
-# Signs that may be unsafe, after the letter that combining marks may follow.
-_RUN = re.compile(r"[A-Za-z]?[^ -~]+")
-
-
-def _safe_run(found: "re.Match[str]") -> str:
-    signs = zip(found[0], _marks(found[0]))
-    return "".join([json.dumps(sign)[1:-1] if bad or _is_unsafe(sign) else sign for sign, bad in signs])
+    # Signs that may be unsafe, after the letter that combining marks may follow.
+    runs = re.compile(r"[A-Za-z]?[^ -~]+")
+    return runs.sub(lambda run: _with(lambda sign: json.dumps(sign)[1:-1], run[0]), text)

@@ -1,6 +1,4 @@
 """The groups of one programme as columns, and the values of fields in them."""
-from __future__ import annotations
-
 from functools import lru_cache
 from typing import Any, Dict, Iterable, List, NamedTuple, Sequence, Tuple
 
@@ -24,13 +22,11 @@ def _fields(prefix: str, names: str) -> List[Field]:
 
 def fields_of(prefix: str, value: Any, names: str) -> List[Any]:
     """The values of these fields in such a payload."""
-    words = payload(value)
-    return [field.of(words) for field in _fields(prefix, names)]
+    return [field.of(payload(value)) for field in _fields(prefix, names)]
 
 
 class Columns(NamedTuple):
-    """Groups, a row each: first position, four words, which of these are known and valid, and group type code; a column
-    for each block."""
+    """Groups, a row each: first position, four words, which of these are known and valid, and group type code; a column for each block."""
 
     place: Array
     words: Array
@@ -44,7 +40,6 @@ class Columns(NamedTuple):
 
 
 def columns_of(rows: Rows) -> Columns:
-    """The columns of rows that are groups."""
     words, kinds = (numpy.stack([rows[f"{name}{block}"] for block in BLOCKS]) for name in ("info", "kind"))
     valid, known = kinds == VALID, kinds >= VALID
     code = numpy.where(known[1], words[1] >> 11, -1)
@@ -52,7 +47,6 @@ def columns_of(rows: Rows) -> Columns:
 
 
 def among(values: Array, chosen: Sequence[int]) -> Array:
-    """Which of the values are one of a few."""
     found: Array = numpy.zeros(values.size, bool)
     for one in chosen:
         found |= values == one
@@ -90,8 +84,7 @@ class Groups:
     """Some groups of one programme, whose second blocks are known.
 
     A station sends the same few groups over and over: `alike` has a row for those that are alike, and `of` is the number
-    of its row for each group. Methods take and give numbers of such rows.
-    """
+    of its row for each group. Methods take and give numbers of such rows."""
 
     def __init__(self, columns: Columns, chosen: Array) -> None:
         self.place = columns.place[chosen]
@@ -134,35 +127,28 @@ class Groups:
         return rows[among(self.application[rows], applications)] if applications else rows
 
     def values(self, name: str, rows: Array) -> Array:
-        """A field in these groups."""
         field = FIELDS[name]
         words = [word[rows] if of in field.blocks else word for of, word in zip(BLOCKS, self.alike.words)]
         value: Array = field.of(words)
         return value
 
     def with_known(self, rows: Array, blocks: Iterable[int]) -> Array:
-        """Those of these groups whose blocks are known."""
         for block in blocks:
             rows = rows[self.alike.known[block - 1][rows]]
         return rows
 
     def are_valid(self, rows: Array, blocks: Iterable[int]) -> Array:
-        """Whether the blocks of these groups are valid."""
         valid: Array = numpy.logical_and.reduce([self.alike.valid[block - 1][rows] for block in blocks])
         return valid
 
-    def _carry(self, look: Look) -> Tuple[Array, Array]:
-        """The groups that carry a look's fields in known blocks, and which of them have valid ones."""
-        blocks = carriers(look)
-        key = look.groups, look.applications, blocks
-        if key not in self._carried:
-            rows = self.with_known(self.assigned(look.groups, look.applications), blocks)
-            self._carried[key] = rows, self.are_valid(rows, blocks)
-        return self._carried[key]
-
     def observed(self, look: Look) -> Observations:
-        """The field in the groups of its types whose blocks that carry it are known."""
-        rows, sound = self._carry(look)
+        """The field in the groups of its types whose blocks that carry it are known; sound are those whose blocks are valid."""
+        blocks = carriers(look)
+        of = look.groups, look.applications, blocks
+        if of not in self._carried:
+            rows = self.with_known(self.assigned(look.groups, look.applications), blocks)
+            self._carried[of] = rows, self.are_valid(rows, blocks)
+        rows, sound = self._carried[of]
         if look.when and rows.size:
             chosen = among(self.values(look.when, rows), tuple(look.values))
             rows, sound = rows[chosen], sound[chosen]

@@ -9,10 +9,7 @@
 
 A value counts in a group whose four blocks are all valid, or when it was received twice in a row alike, of which once
 in valid blocks. Corrected blocks alone never name a station. Another PI is another station, of which nothing is known
-yet. Names and texts are told by the rules of `turns`.
-"""
-from __future__ import annotations
-
+yet. Names and texts are told by the rules of `turns`."""
 from operator import itemgetter
 from typing import Any, Dict, List, Optional, Tuple
 
@@ -70,9 +67,9 @@ class Decoder:
     def __init__(
         self, *, rbds: bool = False, everything: bool = False, lapses: bool = False, data: bool = False
     ) -> None:
-        """With `rbds` programme types have the names of RBDS, and PI call letters; with `lapses` texts in change are told as
-        None; with `data` the bytes of groups 5 and 6 are. `everything` is for tests: it looks at all values that count,
-        and not only at news."""
+        """With `rbds` programme types have the names of RBDS, and PI call letters; with `lapses` texts in change are told as None; with
+        `data` the bytes of groups 5 and 6 are. `everything` is for tests: it looks at all values that count, and not only at news.
+        """
         self.programme: Optional[Programme] = None
         self.rbds, self._everything, self._data = rbds, everything, data
         self._identifications = Evidence()
@@ -124,8 +121,7 @@ class Decoder:
         self.programme = Programme(pi, self._teller, self.rbds, self._everything, self._data)
 
     def _programmes(self, rows: Rows, groups: Columns, fresh: Array) -> tuple[Array, Array, Array]:
-        """For each group the PI that counts, whether another one begins there, and whether the group is of that
-        programme.
+        """For each group the PI that counts, whether another one begins there, and whether the group is of that programme.
 
         A group without PI is taken to be of the programme of the group before it, but not after an acquisition.
         """
@@ -139,8 +135,7 @@ class Decoder:
         index = has.nonzero()[0]
         is_same = not (has & (value != now)).any()
         if is_same and index.size:
-            # One of them says what all do.
-            sound[index[0]] = sound[index].any()
+            sound[index[0]] = sound[index].any()  # one of them says what all do
             index = index[:1]
         key = numpy.zeros(index.size, "i8") + key_of(0)
         seen = Observations(key, index, value[index], groups.whole[index], sound[index])

@@ -1,6 +1,4 @@
 """Events, the values that hold, and how both are told."""
-from __future__ import annotations
-
 from typing import Any, Dict, Iterable, List, NamedTuple, Optional, Sequence
 
 Value = Any
@@ -20,8 +18,7 @@ class Event(NamedTuple):
     """A value that changed in the group whose first bit is at this place, of this PI.
 
     Values are such as JSON has; `text` is the same for a reader. `before` is None for the first value of an item, and
-    `value` is None for an item that is no longer sent.
-    """
+    `value` is None for an item that is no longer sent."""
 
     place: int
     pi: int
@@ -103,7 +100,6 @@ class Taker:
         self._tell = teller.tell
 
     def take(self, kind: int, message: int, position: int, value: int) -> None:
-        """A value that counts."""
         raise NotImplementedError
 
     def hear(self, kind: int, message: int, codes: Optional[bytes]) -> None:

@@ -1,14 +1,10 @@
 """Which received values count, and which of those are news: by numpy, since a station says the same thing all day.
 
-A part is whatever is sent under one address: a flag, two characters of a name, the PI. A part counts in a group whose
-four blocks are all valid, and when it is received twice in a row alike, of which once in valid blocks. So corrected
-blocks alone say nothing.
+A part is whatever is sent under one address: a flag, two characters of a name, the PI. A part counts in a group whose four blocks are all
+valid, and when it is received twice in a row alike, of which once in valid blocks. So corrected blocks alone say nothing.
 
 Parts belong to messages, such as the four pairs of a PS. News of a message is a part that differs from what counted
-before, and the first of each other part after such a change: what a decoder of messages needs, and all that it needs.
-"""
-from __future__ import annotations
-
+before, and the first of each other part after such a change: what a decoder of messages needs, and all that it needs."""
 from typing import Any, Dict, List, NamedTuple, Optional, Tuple
 
 import numpy
@@ -19,8 +15,7 @@ Array = NDArray[Any]
 # A key is a kind, the message among those of its kind, and the part's position in the message.
 POSITION_BITS, KIND_SHIFT = 16, 40
 MOST_PARTS = 20000
-# In place of a value that no part has.
-UNKNOWN = -1
+UNKNOWN = -1  # in place of a value that no part has
 
 
 def key_of(kind: int, message: Any = 0, position: Any = 0) -> Any:
@@ -72,8 +67,7 @@ NONE_SEEN = Observations(*(numpy.empty(0, kind) for kind in ("i8", "i8", "i8", "
 
 
 class PartState(NamedTuple):
-    """What is known of a part: the value received last and whether valid blocks brought it; what counted last, and in
-    which state of its message."""
+    """A part's value received last and whether valid blocks brought it; what counted last, and in which state of its message."""
 
     last: int
     trusted: bool
@@ -110,20 +104,14 @@ class Evidence:
         if not everything:
             seen = seen.where(self._are_open(seen, starts, parts, of))
             news = self._news(self.counted(seen.spread(of))) if seen.key.size else NOTHING
-        elif self._are_again(seen, starts, parts):
-            news = News(*seen.spread(of)[:3])
         else:
-            news = self.counted(seen.spread(of))
+            last = [part.last if part and part.trusted else UNKNOWN for part in parts]
+            are_again = (seen.value == numpy.repeat(last, numpy.diff(starts, append=seen.key.size))).all()
+            news = News(*seen.spread(of)[:3]) if are_again else self.counted(seen.spread(of))
         if len(self.parts) > MOST_PARTS:
             # Noise gives parts that never count: they are forgotten when there are too many.
             self.parts = {name: part for name, part in self.parts.items() if part.counted is not None}
         return news
-
-    @staticmethod
-    def _are_again(seen: Observations, starts: Array, parts: List[Optional[PartState]]) -> bool:
-        """Whether all are the trusted values of their parts again."""
-        last = [part.last if part and part.trusted else UNKNOWN for part in parts]
-        return bool((seen.value == numpy.repeat(last, numpy.diff(starts, append=seen.key.size))).all())
 
     def _are_open(
         self, seen: Observations, starts: Array, parts: List[Optional[PartState]], of: Array
@@ -152,8 +140,7 @@ class Evidence:
         return numpy.repeat(is_open, sizes)
 
     def _note(self, seen: Observations, other: Array, latest: Array, is_trusted: bool) -> None:
-        """Notes the value received last of a part that has no news, and whether it is trusted: by the latest group of each
-        that is unlike the others."""
+        """Notes the last value of a part without news, and whether it is trusted: by the latest group of each unlike the others."""
         name, at = int(seen.key[0]), latest[seen.at]
         last_other = at[other].max(initial=-1)
         trusted = (at[seen.sound & ~other] > last_other).any() or is_trusted and last_other < 0
@@ -170,7 +157,6 @@ class Evidence:
         return News(*(column[counts] for column in seen[:3]))
 
     def _news(self, counted: News) -> News:
-        """Which of the values that count are news."""
         names = counted.key[_firsts(counted.key)].tolist()
         changed = self._changed(counted)
         is_stale = any(self.parts[name].state != self.states.get(name >> POSITION_BITS, 0) for name in names)

@@ -1,6 +1,4 @@
 """Flags, codes and features: what a group says by itself."""
-from __future__ import annotations
-
 import datetime
 from typing import Any, Dict, Optional, Tuple
 
@@ -60,20 +58,15 @@ class SlowLabels(Taker):
         elif kind == Kind.LINKAGE:
             self._tell("linkage", bool(value))
         elif position == 0:
-            self._take_country(value & 0xFF)
+            code = value & 0xFF
+            self._tell("ecc", f"{code:02X}" if code else None)
+            country = names.country(code, self._pi)
+            self._tell("country", country, names.COUNTRY_NAMES[country] if country else None)
         elif position == 3:
-            self._take_language(value & 0xFF)
+            code, name = value & 0xFF, names.language(value & 0xFF)
+            self._tell("language", f"{code:02X}", f"{code:02X} {name}" if name else None)
         elif position in LABELS:
             self._tell(LABELS[position], f"{value:03X}")
-
-    def _take_country(self, code: int) -> None:
-        self._tell("ecc", f"{code:02X}" if code else None)
-        country = names.country(code, self._pi)
-        self._tell("country", country, names.COUNTRY_NAMES[country] if country else None)
-
-    def _take_language(self, code: int) -> None:
-        name = names.language(code)
-        self._tell("language", f"{code:02X}", f"{code:02X} {name}" if name else None)
 
 
 def clock_time(value: int) -> Optional[datetime.datetime]:
@@ -213,5 +206,4 @@ class DabLink(Taker):
         self._tell(f"dab:{16 * frequency / 1000:.3f}", found, shown)
 
 
-# Those that need only the teller.
-PLAIN = (ClockTime, OpenData, TrafficMessages, DabLink)
+PLAIN = (ClockTime, OpenData, TrafficMessages, DabLink)  # those that need only the teller

@@ -1,10 +1,7 @@
 """The position of each field in a group: one table for all group types, with the clauses of IEC 62106.
 
 The clauses are those of the edition of 2009; EN 50067:1998 has the same text in its clause 3 in place of 6. Enhanced
-RadioText, RadioText Plus, the DAB link and the long PS are of later documents, which their lines name.
-"""
-from __future__ import annotations
-
+RadioText, RadioText Plus, the DAB link and the long PS are of later documents, which their lines name."""
 import re
 from typing import Any, NamedTuple, Tuple
 

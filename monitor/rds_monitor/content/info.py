@@ -1,17 +1,16 @@
 """The command `info`: what stations say of themselves, as a summary, or as CSV or JSON of changes."""
-from __future__ import annotations
-
 import argparse
 import csv
 import sys
 import textwrap
-from typing import Dict, Iterator, List, NamedTuple
+from itertools import chain
+from typing import Dict, List, Tuple
 
 import numpy
 
 from ..rows.clock import Clock, clock_of, clock_options
 from ..rows.inputs import input_options, open_input
-from ..rows.items import ITEM, Rows, Source
+from ..rows.items import ITEM
 from .charset import printable
 from .decoder import ITEMS, Decoder, Event
 from .jsonl import content_line, set_utf8
@@ -60,9 +59,12 @@ def options_info(parser: argparse.ArgumentParser) -> None:
 def run_info(arguments: argparse.Namespace) -> int:
     set_utf8()
     source, decoder = open_input(arguments), Decoder(rbds=arguments.rbds)
-    summary, writer = Summary(), csv.writer(sys.stdout, lineterminator="\n")
+    programmes: Dict[int, Dict[str, Last]] = {}
+    writer = csv.writer(sys.stdout, lineterminator="\n")
     names = ["time_s", "pi", "item", "value", "bit"]
-    for rows in chunks_with_end(source):
+    chunks = source.chunks()
+    # Names of columns are written, whether or not there is a row.
+    for rows in chain([next(chunks, numpy.empty(0, ITEM))], chunks):
         events, clock = decoder.feed(rows), clock_of(arguments, source)
         if arguments.csv:
             if names:
@@ -72,17 +74,15 @@ def run_info(arguments: argparse.Namespace) -> int:
         elif arguments.json:
             sys.stdout.writelines(content_line(event, clock) for event in events)
         else:
-            summary.take(events)
+            for event in events:
+                items = programmes.setdefault(event.pi, {})
+                before = items.get(event.item)
+                if not before or before[0] != event.text:
+                    items[event.item] = event.text, event.place, before[2] + 1 if before else 0
     if not (arguments.csv or arguments.json):
-        sys.stdout.write(summary.text(clock_of(arguments, source)))
+        sections = [section(pi, items, clock_of(arguments, source)) for pi, items in programmes.items()]
+        sys.stdout.write("\n".join(sections) or "no station: no PI was received in valid blocks\n")
     return 0
-
-
-def chunks_with_end(source: Source) -> Iterator[Rows]:
-    """The chunks of a source, of which an empty one is the only one if there is none."""
-    chunks = source.chunks()
-    yield next(chunks, numpy.empty(0, ITEM))
-    yield from chunks
 
 
 def row_of(event: Event, clock: Clock) -> List[str]:
@@ -91,41 +91,15 @@ def row_of(event: Event, clock: Clock) -> List[str]:
     return [*shown, str(event.place), *clock.utc(event.place)]
 
 
-class Last(NamedTuple):
-    """The last value of an item, since when it holds, and how often it changed."""
-
-    text: str
-    place: int
-    changes: int
+Last = Tuple[str, int, int]  # the last value of an item, since when it holds, and how often it changed
 
 
-class Summary:
-    """The last values of each programme."""
-
-    def __init__(self) -> None:
-        self._programmes: Dict[int, Dict[str, Last]] = {}
-
-    def take(self, events: List[Event]) -> None:
-        for event in events:
-            items = self._programmes.setdefault(event.pi, {})
-            before = items.get(event.item)
-            if not before or before.text != event.text:
-                changes = before.changes + 1 if before else 0
-                items[event.item] = Last(event.text, event.place, changes)
-
-    def text(self, clock: Clock) -> str:
-        if not self._programmes:
-            return "no station: no PI was received in valid blocks\n"
-        return "\n".join(self._section(pi, items, clock) for pi, items in self._programmes.items())
-
-    @staticmethod
-    def _section(pi: int, items: Dict[str, Last], clock: Clock) -> str:
-        width = max(len(label(item)) for item in items)
-        lines = [f"{pi:04X} {printable(items['ps'].text) if 'ps' in items else ''}".rstrip()]
-        for item, last in items.items():
-            if item != "pi":
-                utc = clock.utc(last.place)
-                since = utc[0] if utc else f"{clock.seconds(last.place):.3f} s"
-                changed = f", {last.changes} change{'s' * (last.changes != 1)}" if last.changes else ""
-                lines.append(f"  {label(item):{width}}  {printable(last.text)}  (since {since}{changed})")
-        return "\n".join(lines) + "\n"
+def section(pi: int, items: Dict[str, Last], clock: Clock) -> str:
+    width = max(len(label(item)) for item in items)
+    lines = [f"{pi:04X} {printable(items['ps'][0]) if 'ps' in items else ''}".rstrip()]
+    for item, (text, place, changes) in items.items():
+        if item != "pi":
+            since = [*clock.utc(place), f"{clock.seconds(place):.3f} s"][0]
+            changed = f", {changes} change{'s' * (changes != 1)}" if changes else ""
+            lines.append(f"  {label(item):{width}}  {printable(text)}  (since {since}{changed})")
+    return "\n".join(lines) + "\n"

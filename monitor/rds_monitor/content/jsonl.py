@@ -1,6 +1,4 @@
 """The command `json`: a line of JSON per event, per row of the listing, or per group with the keys of redsea."""
-from __future__ import annotations
-
 import argparse
 import sys
 from functools import lru_cache
@@ -8,8 +6,8 @@ from operator import itemgetter
 from typing import Any, Dict, Iterator, List, Optional, Tuple, Union
 
 from ..rows.clock import Clock, clock_of, clock_options
-from ..rows.inputs import describe, input_options, open_input
-from ..rows.items import ACQUIRED, GROUP, LOSS, LOST, MISSING, UNKNOWN_TYPE, Rows, Totals
+from ..rows.inputs import input_options, open_input
+from ..rows.items import ACQUIRED, GROUP, LOSS, LOST, MISSING, UNKNOWN_TYPE, Rows
 from ..rows.listing import OFFSET_NAMES, named
 from .charset import safe_json
 from .decoder import Decoder, Event
@@ -24,14 +22,12 @@ def set_utf8() -> None:
 
 
 def options_json(parser: argparse.ArgumentParser) -> None:
-    describe(
-        parser,
-        "A line of JSON per event: acquisitions and losses of sync, and changes of what the station "
-        "says. Characters that could act on a terminal are \\u escapes.",
-        "rds-monitor json monday.bin | jq 'select(.item == \"ps\")'",
-        "receiver | rds follow | rds-monitor json --unfinished",
-        "rds-monitor json --redsea monday.bin",
-    )
+    """A line of JSON per event: acquisitions and losses of sync, and changes of what the station says. Characters that could act on a
+    terminal are \\u escapes.
+
+    rds-monitor json monday.bin | jq 'select(.item == "ps")'
+    receiver | rds follow | rds-monitor json --unfinished
+    rds-monitor json --redsea monday.bin"""
     input_options(parser)
     text = "RBDS: its names of programme types, and call letters by the PI"
     parser.add_argument("--rbds", action="store_true", help=text)
@@ -55,20 +51,16 @@ def run_json(arguments: argparse.Namespace) -> int:
             sys.stdout.write("".join(redsea.lines(rows, clock)))
         else:
             sys.stdout.writelines(event_lines(rows, decoder.feed(rows), clock))
-    if arguments.rows:
-        sys.stdout.writelines(map(line, total_objects(source.totals)))
+    for name, value in named(source.totals) if arguments.rows and source.totals else ():
+        sys.stdout.write(line({"event": "total", "name": name, "value": value}))
     return 0
 
 
 def placed(event: str, bit: int, clock: Clock) -> Dict[str, Any]:
-    """An object's beginning: its event, bit position and time."""
     found = {"event": event, "bit": bit, "time_s": round(clock.seconds(bit), 3)}
     if clock.start is not None:
         found["time_utc"] = clock.utc(bit)[0]
     return found
-
-
-# ---- events
 
 
 def line(value: Dict[str, Any]) -> str:
@@ -112,9 +104,6 @@ def _sync_object(what: int, place: int, number: int, clock: Clock) -> Dict[str, 
     return placed("lost", place, clock)
 
 
-# ---- rows
-
-
 def row_objects(rows: Rows, clock: Clock) -> Iterator[Dict[str, Any]]:
     for row in rows.tolist():
         place, blocks, (what, number, version, conflict) = row[0], row[1:17], row[17:21]
@@ -140,8 +129,3 @@ def _block_object(burst: int, info: int, kind: int, offset: int) -> Optional[Dic
     if burst:
         found["burst"] = f"{burst:07X}"
     return found
-
-
-def total_objects(totals: Optional[Totals]) -> Iterator[Dict[str, Any]]:
-    for name, value in named(totals) if totals else ():
-        yield {"event": "total", "name": name, "value": value}

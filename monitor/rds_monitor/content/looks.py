@@ -1,6 +1,4 @@
 """Which fields are looked at in which groups: tables, by the fields of `fields.py`."""
-from __future__ import annotations
-
 from enum import IntEnum
 from functools import lru_cache
 from typing import Dict, FrozenSet, List, NamedTuple, Optional, Tuple
@@ -13,9 +11,8 @@ ENHANCED_RT, TMC = 0x6552, (0xCD46, 0xCD47)
 # Kinds of news, in the order in which those of one group are told.
 Kind = IntEnum(
     "Kind",
-    "TP_PTY TA_MS DI AF PS RT_FLAG RT PTYN_FLAG PTYN PIN LINKAGE LABEL CT ODA ODA_MESSAGE ERT DAB EON_TP EON_PS "
-    "EON_AF EON_MAPPED EON_LINKAGE EON_PTY EON_TA EON_PIN LPS EWS CHANNEL TMC_NAME DAB_SERVICE TAGS ERT_CODING "
-    "ERT_TAGS TMC_MESSAGE TDC_DATA IH_DATA",
+    "TP_PTY TA_MS DI AF PS RT_FLAG RT PTYN_FLAG PTYN PIN LINKAGE LABEL CT ODA ODA_MESSAGE ERT DAB EON_TP EON_PS EON_AF EON_MAPPED "
+    "EON_LINKAGE EON_PTY EON_TA EON_PIN LPS EWS CHANNEL TMC_NAME DAB_SERVICE TAGS ERT_CODING ERT_TAGS TMC_MESSAGE TDC_DATA IH_DATA",
 )
 # Positions of CHANNEL: the channels of transparent data, and from here on group type codes.
 GROUP_CODES = 0x40
@@ -72,10 +69,6 @@ class Look(NamedTuple):
     applications: Tuple[int, ...]
 
 
-def _applications(text: str) -> Tuple[int, ...]:
-    return tuple(int(one, 16) or -1 for one in text.split(",") if one)
-
-
 def _looks() -> Dict[Kind, List[Look]]:
     found: Dict[Kind, List[Look]] = {}
     for line in _TABLE.strip().splitlines()[1:]:
@@ -83,15 +76,15 @@ def _looks() -> Dict[Kind, List[Look]]:
         position, message, when, applications = rest
         (position, _, offset), (when, _, values) = position.partition("+"), when.partition("=")
         chosen = frozenset(int(one, 0) for one in values.split(",") if one)
-        of = groups.replace(",", " "), value, position, int(offset or 0), message, when, chosen
-        found.setdefault(Kind[name], []).append(Look(Kind[name], *of, _applications(applications)))
+        assigned = tuple(int(one, 16) or -1 for one in applications.split(",") if one)
+        of = groups.replace(",", " "), value, position, int(offset or 0), message, when, chosen, assigned
+        found.setdefault(Kind[name], []).append(Look(Kind[name], *of))
     return found
 
 
 LOOKS = _looks()
 # Kinds that are each sifted by themselves, and those of a part of the texts below.
-_APART = "ODA ODA_MESSAGE AF EON_AF CT TAGS ERT_TAGS"
-APART = {Kind[name] for name in _APART.split()}
+APART = {Kind[name] for name in "ODA ODA_MESSAGE AF EON_AF CT TAGS ERT_TAGS".split()}
 FLAGS = (Kind.RT_FLAG, Kind.PTYN_FLAG, Kind.ERT_CODING)
 
 
@@ -107,8 +100,7 @@ class TextLook(NamedTuple):
 
     `first` is the number of the first segment, and `message` tells one of several texts apart. Another value of `flag`
     begins another text; groups have to carry the flag that counts, or if there is a `coding`, that has to count. Their
-    type has to be assigned to one of the `applications` if there are any, or to none for -1.
-    """
+    type has to be assigned to one of the `applications` if there are any, or to none for -1."""
 
     kind: Kind
     groups: str

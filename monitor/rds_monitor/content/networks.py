@@ -1,7 +1,5 @@
 """Alternative frequencies, and other networks (EON)."""
-from __future__ import annotations
-
-from typing import Any, Dict, List, Optional, Tuple
+from typing import Any, Dict, List, Optional
 
 from . import names
 from .events import Taker, Teller
@@ -9,8 +7,7 @@ from .features import item_number
 from .looks import Kind
 from .texts import name_of
 
-# IEC 62106, clause 6.2.1.6: the codes of frequencies, of fillers, of how many follow, and of a long or medium wave
-# after it.
+# IEC 62106, clause 6.2.1.6: the codes of frequencies, of fillers, of how many follow, and of a long or medium wave after it.
 LAST_VHF, FILLER, NONE_FOLLOW, MOST_FOLLOW, LOW_FOLLOWS = 204, 205, 224, 249, 250
 
 
@@ -32,8 +29,7 @@ class FrequencyList:
 
     By method A each frequency comes once. By method B the first one is that of a transmitter, and comes again in each
     pair: if the pair rises, beside a frequency of the same programme, else beside one of a regional variant. The list
-    is complete once as many pairs came as its head says; any other pair after that begins it anew.
-    """
+    is complete once as many pairs came as its head says; any other pair after that begins it anew."""
 
     TURNS = 8
 
@@ -48,8 +44,7 @@ class FrequencyList:
         self._list = self._found()
 
     def take(self, pair: int) -> Any:
-        """Takes a pair that counts. Returns the list if it became complete: the frequencies, or by method B those of one
-        transmitter."""
+        """Takes a pair that counts. Returns the list if it became complete: the frequencies, or by method B those of one transmitter."""
         if pair == self.head:
             self._turns += 1
             if self._turns == 1:
@@ -86,25 +81,23 @@ class FrequencyList:
         if self.count == 0:
             return []
         if first is not None and beside:
-            return self._by_transmitter(first, beside) if len(beside) == self.count // 2 else None
+            if len(beside) != self.count // 2:
+                return None
+            same, regional = (
+                sorted(filter(None, (kilohertz(low if high == self.first else high) for high, low in chosen)))
+                for chosen in ([p for p in beside if p[0] <= p[1]], [p for p in beside if p[0] > p[1]])
+            )
+            return {"tuned": first, "same": same, "regional": regional}
         found = [first] if first is not None else []
         for high, low in pairs:
             codes = [kilohertz(low, True)] if high == LOW_FOLLOWS else [kilohertz(high), kilohertz(low)]
             found += [code for code in codes if code is not None]
         if len(found) != self.count:
             return None
-        # The same frequencies that come in another order, since the list was heard from its middle on, are the same
-        # list.
+        # The same frequencies that come in another order, since the list was heard from its middle on, are the same list.
         if sorted(found) != sorted(self._told):
             self._told = found
         return self._told
-
-    def _by_transmitter(self, first: int, pairs: List[Tuple[int, int]]) -> Dict[str, Any]:
-        same, regional = (
-            sorted(filter(None, (kilohertz(low if high == self.first else high) for high, low in chosen)))
-            for chosen in ([p for p in pairs if p[0] <= p[1]], [p for p in pairs if p[0] > p[1]])
-        )
-        return {"tuned": first, "same": same, "regional": regional}
 
 
 def _many(frequencies: List[int]) -> str:

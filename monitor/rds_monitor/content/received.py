@@ -1,15 +1,15 @@
-"""The news in the groups of one programme: which values changed, and which names and texts are whole."""
-from __future__ import annotations
-
-from typing import Dict, Iterator, List, Sequence, Tuple
+"""The news in the groups of one programme: which values changed, and which names and texts became whole or ended."""
+from typing import Dict, Iterator, List, NamedTuple, Optional, Sequence, Tuple
 
 import numpy
 
+from ..rows.items import GROUP_BITS
 from .columns import Columns, Groups, among, fields_of
-from .evidence import NONE_SEEN, Array, Evidence, News, Observations, key_of, latest
-from .looks import APART, FLAGS, GROUP_CODES, LOOKS, PRESENT, TMC, Kind, code_of, may_carry_application
-from .messages import Messages, TextChange
-from .turns import steps_of
+from .evidence import NONE_SEEN, Array, Epochs, Evidence, News, Observations, key_of, latest
+from .fields import FIELDS
+from .looks import APART, FLAGS, GROUP_CODES, LOOKS, PRESENT, TEXTS, TMC, Kind, TextLook, code_of
+from .looks import may_carry_application
+from .turns import OUTAGE_BITS, UNKNOWN, Distinct, Message, Segments, steps_of
 
 
 def joined(seen: Sequence[Observations]) -> Observations:
@@ -54,7 +54,6 @@ class FrequencyNews:
         return News(key[chosen], counted.at[chosen], counted.value[chosen])
 
     def _news_of(self, head: int, pairs: Array) -> Array:
-        """Which of the pairs of one list are news."""
         turn = self.turns.get(head, 0) + numpy.cumsum(pairs == head)
         # numpy sorts words of 16 bits several times as fast.
         order = numpy.argsort(pairs.astype("u2"), kind="stable")
@@ -76,14 +75,108 @@ class FrequencyNews:
         return news
 
 
+MOST_BEGUN = 256  # how many names of other networks are remembered, of those that were never whole
+
+
+class TextChange(NamedTuple):
+    """The characters of a text that became whole in the group with this number, or None if it holds no more.
+
+    `message` tells which of several texts it is, or its coding."""
+
+    at: int
+    kind: Kind
+    message: int
+    codes: Optional[bytes]
+
+
+class Messages:
+    """The reception of all names and texts of one programme."""
+
+    def __init__(self, lapses: bool) -> None:
+        """With `lapses`, a text that ends and is whole again at once is told."""
+        self._messages: Dict[Tuple[TextLook, int], Message] = {}
+        self._lapses = lapses
+        self._place = self._outage = self._run = 0
+        self._flags: Dict[Kind, Tuple[int, int]] = {kind: (UNKNOWN, 0) for kind in FLAGS}
+
+    def changes(self, groups: Groups, evidence: Evidence) -> Tuple[News, List[TextChange]]:
+        """The changes of the flag of RadioText, and those of all texts, in these groups."""
+        # For each group the number of the outages before it, and of the run of groups without a gap that it is in.
+        step = steps_of(groups.place, self._place)
+        outage = self._outage + numpy.cumsum(step > OUTAGE_BITS)
+        run = self._run + numpy.cumsum(step != GROUP_BITS)
+        self._place, self._outage, self._run = int(groups.place[-1]), int(outage[-1]), int(run[-1])
+        changed = {kind: evidence.news(groups.observed(*LOOKS[kind]), groups.of) for kind in FLAGS}
+        epochs = {kind: Epochs(changed[kind], *self._flags[kind]) for kind in FLAGS}
+        self._flags = {kind: epochs[kind].last for kind in FLAGS}
+        found: List[TextChange] = []
+        for look in TEXTS:
+            rows = groups.assigned(look.groups, look.applications)
+            if look.message:
+                rows = groups.with_known(rows, FIELDS[look.message].blocks)
+            segment = groups.values(look.segment, rows) - look.first
+            rows = rows[(segment >= 0) & (segment < look.shape.segments)]
+            if rows.size:
+                of_flag = epochs[look.flag] if look.flag else None
+                found += self._texts(groups, look, rows, outage, run, of_flag)
+        return changed[Kind.RT_FLAG], found
+
+    def _texts(
+        self, groups: Groups, look: TextLook, rows: Array, outage: Array, run: Array, epochs: Optional[Epochs]
+    ) -> Iterator[TextChange]:
+        names, starts = numpy.zeros(1, "i8"), numpy.zeros(1, "i8")
+        if look.message:
+            message = groups.values(look.message, rows)
+            rows = rows[numpy.argsort(message, kind="stable")]
+            names, starts = numpy.unique(groups.values(look.message, rows), return_index=True)
+        at, number = groups.places_of(rows)
+        said, generation = _said(groups, look, rows), outage[at] << 32
+        if epochs:
+            # The flag that counts has to be that of the group itself, or the one of this coding.
+            flags = numpy.full(rows.size, look.coding)
+            if look.coding is None and look.flag is not None:
+                flags = groups.values(LOOKS[look.flag][0].value, rows)
+            own = epochs.flag(at) == flags[number]
+            at, number, generation = at[own], number[own], (generation | epochs.number(at))[own]
+        for one, start, end in zip(names.tolist(), starts.tolist(), [*starts[1:].tolist(), rows.size]):
+            chosen = ((number >= start) & (number < end)).nonzero()[0] if look.message else slice(None)
+            of = at[chosen]
+            rest = run[of], generation[chosen], said[start:end]
+            part = Segments(groups.place[of], number[chosen] - start, *rest)
+            coding = one if look.coding is None else look.coding
+            for row, codes in self._message(look, one).take(part):
+                yield TextChange(int(of[row]), look.kind, coding, codes)
+
+    def _message(self, look: TextLook, message: int) -> Message:
+        if (look, message) not in self._messages:
+            if len(self._messages) >= MOST_BEGUN:
+                self._forget()
+            self._messages[look, message] = Message(look.shape, self._lapses)
+        return self._messages[look, message]
+
+    def _forget(self) -> None:
+        """Noise begins the names of networks that do not exist: those that were never whole are forgotten."""
+        self._messages = {key: message for key, message in self._messages.items() if message.was_told}
+
+
+def _said(groups: Groups, look: TextLook, rows: Array) -> Distinct:
+    values, valid, own = [], [], {2, *(FIELDS[look.message].blocks if look.message else ())}
+    for pair in look.pairs:
+        blocks = FIELDS[pair].blocks
+        known = groups.alike.known[blocks[0] - 1][rows]
+        values.append(numpy.where(known, groups.values(pair, rows), UNKNOWN))
+        valid.append(groups.are_valid(rows, {*own, *blocks}))
+    segment = groups.values(look.segment, rows) - look.first
+    return Distinct(segment, numpy.stack(values, axis=1), numpy.stack(valid, axis=1))
+
+
 class Received:
     """The reception of one programme. `news` takes the next groups of it."""
 
     def __init__(
         self, everything: bool = False, kinds: Sequence[int] = tuple(Kind), lapses: bool = True
     ) -> None:
-        """News of these kinds are of use. With `everything`, all that counts is news: slow, and the measure that `news` is
-        tested by."""
+        """News of these kinds are of use. With `everything`, all that counts is news: slow, and the measure that `news` is tested by."""
         self._everything = everything
         self._evidence, self._frequencies = Evidence(), FrequencyNews()
         self._assigned: Dict[int, int] = {}
@@ -92,8 +185,7 @@ class Received:
         self._sifted = [kind for kind in LOOKS if kind in kinds and kind not in {*APART, *FLAGS}]
 
     def news(self, columns: Columns, chosen: Array) -> Tuple[News, List[TextChange]]:
-        """The news of the chosen groups, in the order of the groups and of the kinds within each, and the changes of texts
-        in any order."""
+        """The news of the chosen groups, in the order of the groups and of the kinds within each, and the changes of texts in any order."""
         groups = Groups(columns, chosen)
         self._assign(groups, assignments := self._sift(groups, self._seen(groups, Kind.ODA)))
         flags, texts = self._messages.changes(groups, self._evidence)
@@ -107,7 +199,12 @@ class Received:
 
     def _all_news(self, groups: Groups) -> Iterator[News]:
         seen = [self._seen(groups, kind) for kind in self._sifted]
-        yield self._sift(groups, joined([*seen, *self._present(groups), self._services(groups)]))
+        # The bits that groups 3A carry of TMC, by their variants.
+        services = self._seen(groups, Kind.ODA_MESSAGE)
+        aid = services.key & 0xFFFF
+        key = key_of(Kind.ODA_MESSAGE, aid, services.value >> 14)
+        services = services._replace(key=key).where(among(aid, TMC))
+        yield self._sift(groups, joined([*seen, *self._present(groups), services]))
         counted = self._evidence.news(self._seen(groups, Kind.AF), groups.of, True)
         if counted.key.size:
             yield self._frequencies.news(in_time(counted), self._everything)
@@ -117,7 +214,6 @@ class Received:
 
     @staticmethod
     def _seen(groups: Groups, kind: Kind) -> Observations:
-        """The values of a kind in the groups that carry them."""
         return joined([groups.observed(look) for look in LOOKS[kind]])
 
     def _sift(self, groups: Groups, seen: Observations) -> News:
@@ -158,15 +254,8 @@ class Received:
                 key = numpy.zeros(rows.size, "i8") + key_of(Kind.CHANNEL, 0, channel)
                 yield Observations(key, rows, ones.astype("i8"), groups.alike.whole[rows], ones)
 
-    def _services(self, groups: Groups) -> Observations:
-        """The bits that groups 3A carry of TMC, by their variants."""
-        seen = self._seen(groups, Kind.ODA_MESSAGE)
-        aid = seen.key & 0xFFFF
-        return seen._replace(key=key_of(Kind.ODA_MESSAGE, aid, seen.value >> 14)).where(among(aid, TMC))
-
     def _tags(self, groups: Groups, kind: Kind, others: Array) -> News:
-        """The tags of RadioText Plus that count: the same ones are of each text in turn, and are news again after other groups,
-        in which texts changed."""
+        """The tags of RadioText Plus that count: the same ones are of each text in turn, and are news again after changes of texts."""
         seen = self._seen(groups, kind)
         first, second = fields_of("rtplus", seen.value, "class1 class2")
         seen = seen._replace(key=key_of(kind, 0, first << 6 | second))

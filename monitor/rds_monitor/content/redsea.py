@@ -1,10 +1,7 @@
 """Groups as redsea's JSON: a line per group, by the keys of redsea for what both know.
 
 Values are those that count by the rules of `content`, so they are the station's and no wrong correction's; a PS or a
-text is written with the last group of its turn, as long as it holds.
-"""
-from __future__ import annotations
-
+text is written with the last group of its turn, as long as it holds."""
 from functools import lru_cache
 from itertools import chain, groupby
 from operator import itemgetter
@@ -24,10 +21,8 @@ from .networks import kilohertz
 
 Object = Dict[str, Any]
 Words = Tuple[int, int, int, int]
-# How many groups are remembered: more than a station sends in turn.
-MOST_WRITTEN = 1 << 14
-# The time's place in a line, in which no control is.
-TIME = "\0"
+MOST_WRITTEN = 1 << 14  # how many groups are remembered: more than a station sends in turn
+TIME = "\0"  # the time's place in a line, in which no control is
 # The segment in which a name or text is written, besides the group in which it changes: of these bits of block 2.
 WRITTEN_IN = {"ps": (3, 3), "rt": (0xF, 0)}
 # The group types that tell an item, but for the group in which it changes.
@@ -54,8 +49,7 @@ class Written(Dict[int, str]):
     def __missing__(self, group: int) -> str:
         found = self._make(group)
         if group >> 44 & 0xF == 6:
-            # In-house data are seldom alike.
-            return found
+            return found  # in-house data are seldom alike
         if len(self) < MOST_WRITTEN:
             self[group] = found
             self._known.setdefault(group >> 32 & 0xF80F, []).append(group)
@@ -89,7 +83,7 @@ class Redsea:
         makers: Dict[str, Callable[[Object, Words], None]] = {
             "0A 0B 15B": self._tuning,
             "1A": self._labels,
-            "1B": self._number,
+            "1B": lambda found, words: self._put_number(found, "pin", words[3]),
             "2A 2B": self._text,
             "3A": self._open_data,
             "4A": self._clock,
@@ -121,8 +115,7 @@ class Redsea:
         begin = 0
         ends = numpy.searchsorted(groups["place"], [event.place for event in events]).tolist()
         for end, pairs in groupby(zip(ends, events), itemgetter(0)):
-            # Events of one group change it together.
-            told = [event for _, event in pairs]
+            told = [event for _, event in pairs]  # events of one group change it together
             if begin == end or end == len(keys) or self._changes(told, keys[end] >> 32):
                 lines += self._lines_of(keys[begin:end])
                 begin = end
@@ -205,9 +198,6 @@ class Redsea:
             if lists:
                 found["alt_frequencies_b"] = {key: lists[-1][of] for key, of in keys.items()}
 
-    def _number(self, found: Object, words: Words) -> None:
-        self._put_number(found, "pin", words[3])
-
     def _put_number(self, found: Object, item: str, number: int) -> None:
         """A programme item number, and its start if it has one that counts."""
         start = item_number(number)
@@ -218,7 +208,7 @@ class Redsea:
             found["prog_item_started"] = {"day": int(start[:2]), "time": start[3:]}
 
     def _labels(self, found: Object, words: Words) -> None:
-        self._number(found, words)
+        self._put_number(found, "pin", words[3])
         found["has_linkage"] = bool(words[2] & 0x8000)
         variant = words[2] >> 12 & 7
         if variant == 0:
@@ -255,7 +245,8 @@ class Redsea:
     def _channel(self, found: Object, words: Words) -> None:
         address = words[1] & 0x1F
         if f"tdc:{address}" in self._held:
-            raw = b"".join(word.to_bytes(2, "big") for word in _own(words))
+            own = words[3:] if words[1] & 0x800 else words[2:]  # in version B only block 4 is the channel's
+            raw = b"".join(word.to_bytes(2, "big") for word in own)
             found["transparent_data"] = {"address": address, "raw": raw.hex(" ").upper()}
 
     def _traffic(self, found: Object, words: Words) -> None:
@@ -331,8 +322,3 @@ def _keys_of(groups: Rows) -> Array:
     valid = numpy.logical_and.reduce([groups[f"kind{block}"] == VALID for block in BLOCKS])
     keys: Array = valid * (1 << 49) | complete << 48 | second << 32 | (third << 16 | fourth) * complete
     return keys
-
-
-def _own(words: Words) -> Tuple[int, ...]:
-    """The words of a group's own: blocks 3 and 4, or in version B block 4."""
-    return words[3:] if words[1] & 0x800 else words[2:]

@@ -1,8 +1,6 @@
 """Names and texts: PS, RadioText with RadioText Plus, programme type name, long PS, enhanced RadioText."""
-from __future__ import annotations
-
 from functools import lru_cache
-from typing import Dict, List, NamedTuple, Optional, Tuple
+from typing import Dict, List, Optional, Tuple
 
 from .charset import decode
 from .columns import fields_of
@@ -17,31 +15,20 @@ def name_of(codes: bytes) -> str:
 
 
 class Name(Taker):
-    """A name in groups of its own: PS in 0A and 0B, PTYN in 10A, the provider of a TMC service in 8A."""
+    """A name in groups of its own: PS in 0A and 0B, PTYN in 10A, the provider of a TMC service in 8A, and the long PS in 15A, in UTF-8."""
 
-    items = {Kind.PS: "ps", Kind.PTYN: "ptyn", Kind.TMC_NAME: "tmc_provider"}
+    items = {Kind.PS: "ps", Kind.PTYN: "ptyn", Kind.TMC_NAME: "tmc_provider", Kind.LPS: "lps"}
     kinds = tuple(items)
 
     def hear(self, kind: int, message: int, codes: Optional[bytes]) -> None:
-        self._teller.tell_text(self.items[Kind(kind)], name_of(codes) if codes is not None else None)
+        name = None if codes is None else name_of(codes)
+        if codes is not None and kind == Kind.LPS:
+            name = codes.decode("utf-8", "replace").rstrip(" \0")
+        self._teller.tell_text(self.items[Kind(kind)], name)
 
 
-class LongName(Taker):
-    """Group 15A: the long PS, in UTF-8."""
-
-    kinds = (Kind.LPS,)
-
-    def hear(self, kind: int, message: int, codes: Optional[bytes]) -> None:
-        text = None if codes is None else codes.decode("utf-8", "replace").rstrip(" \0")
-        self._teller.tell_text("lps", text)
-
-
-class Tag(NamedTuple):
-    """A tag of RadioText Plus: the item that it tells, and the characters of the text from start to before end."""
-
-    item: str
-    start: int
-    end: int
+# A tag of RadioText Plus: the item that it tells, and the characters of the text from start to before end.
+Tag = Tuple[str, int, int]
 
 
 @lru_cache(1 << 10)
@@ -52,8 +39,8 @@ def tags_of(prefix: str, value: int) -> List[Tag]:
         content, start, more = fields_of("rtplus", value, f"class{number} start{number} more{number}")
         if content:
             item = f"{prefix}:{CONTENT_TYPES[content]}"
-            is_second = any(tag.item == item for tag in found)
-            found.append(Tag(item + ":2" * is_second, start, start + more + 1))
+            is_second = any(tag[0] == item for tag in found)
+            found.append((item + ":2" * is_second, start, start + more + 1))
     return found
 
 
@@ -66,8 +53,7 @@ class TaggedText(Taker):
         super().__init__(teller)
         self._characters: Optional[Tuple[str, ...]] = None
         self._pending: Dict[str, Tag] = {}
-        # The tags that were taken last, if the text did not change since.
-        self._last_tags = -1
+        self._last_tags = -1  # the tags that were taken last, if the text did not change since
 
     def hear(self, kind: int, message: int, codes: Optional[bytes]) -> None:
         self._last_tags = -1
@@ -93,14 +79,13 @@ class TaggedText(Taker):
         self._tell(f"{self.prefix}_toggle", toggle)
         self._tell(f"{self.prefix}_running", bool(running))
         tags = tags_of(self.prefix, value)
-        if len(tags) == 1 and f"{tags[0].item}:2" in self._teller.held:
-            self._teller.drop([f"{tags[0].item}:2"])
-        self._pending.update((tag.item, tag) for tag in tags)
+        if len(tags) == 1 and f"{tags[0][0]}:2" in self._teller.held:
+            self._teller.drop([f"{tags[0][0]}:2"])
+        self._pending.update((tag[0], tag) for tag in tags)
         if self._characters is not None:
             self._tell_tags()
 
     def _tell_tags(self) -> None:
-        """Tells the pending tags that are inside the text."""
         characters = self._characters or ()
         for item, start, end in self._pending.values():
             text = "".join(characters[start:end]).strip(" \0")
@@ -143,5 +128,4 @@ class EnhancedText(TaggedText):
         return tuple(codes.decode("utf-8" if message else "utf-16-be", "replace"))
 
 
-# Those that need only the teller.
-PLAIN = (Name, RadioText, LongName, EnhancedText)
+PLAIN = (Name, RadioText, EnhancedText)  # those that need only the teller

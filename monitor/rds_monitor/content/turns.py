@@ -1,8 +1,7 @@
 """Names and texts in segments. One is told if all of it was sent in one turn, or in turns that agree.
 
-A turn is a run of segments whose numbers rise. A pair of characters is valid if the blocks that carry it are, confirmed
-if it came twice alike, and else single. The rules are this project's; docs/ACCURACY.md has the simulation that chose
-their constants:
+A turn is a run of segments whose numbers rise. A pair of characters is valid if the blocks that carry it are, confirmed if it came twice
+alike, and else single. The rules are this project's; docs/ACCURACY.md has the simulation that chose their constants:
 
 - A turn that has all pairs is told at its last pair. At the end of each turn its pairs join those of earlier turns.
 - Few pairs of a text that is told may be single: two if at least 14 of the last 16 pairs were valid, one if 6 were.
@@ -10,10 +9,7 @@ their constants:
   and ends the text if it comes twice alike.
 - A pair of a name joins later turns for `NAME_TURNS` turns, a pair of a text for `TEXT_BITS`.
 - An outage of more than `OUTAGE_BITS` ends every name and text. So does a time in which a whole turn can have been
-  missed, by the pace of the last segments, unless all pairs are those of the text that was told.
-"""
-from __future__ import annotations
-
+  missed, by the pace of the last segments, unless all pairs are those of the text that was told."""
 from collections import deque
 from functools import cached_property
 from typing import Any, Deque, Dict, Generator, Iterator, List, NamedTuple, Optional, Tuple
@@ -30,8 +26,7 @@ NAME_TURNS = 4
 TEXT_BITS = 60 * 1187.5
 OUTAGE_BITS = 10 * 1187.5
 UNKNOWN = -1
-# How far a pair can be trusted.
-SINGLE, CONFIRMED, VALID = 0, 1, 2
+SINGLE, CONFIRMED, VALID = 0, 1, 2  # how far a pair can be trusted
 # How many rows that say a text again are read one by one, before others are passed at once.
 LEAST_READ = RECENT
 FIRST_PASSED = 64 * LEAST_READ
@@ -43,8 +38,7 @@ class Shape(NamedTuple):
     """The layout of a name or text: its most segments, the pairs of characters in each, and where it may end.
 
     A name has all of its segments. A text may end before: by a pair that has the character `END_OF_TEXT`, or is it if
-    characters are `wide`, or where its segments begin anew.
-    """
+    characters are `wide`, or where its segments begin anew."""
 
     segments: int
     pairs: int
@@ -53,7 +47,6 @@ class Shape(NamedTuple):
 
     @property
     def size(self) -> int:
-        """How many pairs there are."""
         return self.segments * self.pairs
 
     @property
@@ -66,8 +59,7 @@ class Shape(NamedTuple):
 
 
 class Distinct:
-    """Segments that are unlike each other: their numbers, and a column per pair of its value and whether it is valid, with
-    UNKNOWN for one that was not received."""
+    """Segments that are unlike each other: their numbers, and a column per pair of its value and validity, UNKNOWN for one not received."""
 
     def __init__(self, segment: Array, value: Array, valid: Array) -> None:
         self.segment, self.value, self.valid = segment, value, valid
@@ -147,8 +139,7 @@ class Pace:
         self._is_text = shape.is_text
         self._segments = self.LEAST_SEGMENTS if shape.is_text else shape.segments
         self._place, self._segment = UNKNOWN, UNKNOWN
-        # The bits and steps between the last segments.
-        self._bits = self._steps = numpy.zeros(RECENT, "i8")
+        self._bits = self._steps = numpy.zeros(RECENT, "i8")  # the bits and steps between the last segments
 
     def missed(self, place: Array, segment: Array) -> Array:
         """Whether as much time went by before each of the next segments as a turn more takes."""
@@ -289,7 +280,8 @@ class Message:
             segment, values, valid = said.rows[number]
             if segment <= self._segment:
                 self._end_turn(segment == 0 and run == self._run)
-                text = self._whole(self._fresh(place))
+                earlier = self._earlier.items()
+                text = self._whole({at: pair for at, pair in earlier if self._is_fresh(pair, place)})
                 if text is not None:
                     yield begin + row, text
                     continue
@@ -306,8 +298,7 @@ class Message:
     # ---- while the text that was told holds
 
     def _pass(self, turns: Turns, begin: int, end: int, told: WholeText) -> Tuple[int, List[int]]:
-        """Passes the first of these rows if they say the told text again: where it ends, and in which of them the text ended
-        early, and was whole again at once."""
+        """Passes rows that say the told text again: where they end, and in which of them it ended early and was whole again at once."""
         other = turns.said.others(told, self._length == told.size)[turns.number[begin:end]]
         cuts = turns.restarts
         if cuts.size:
@@ -330,8 +321,7 @@ class Message:
         return end, cuts.tolist()
 
     def _are_kept(self, turns: Turns, rows: slice, cuts: Array, told: WholeText) -> Array:
-        """Whether the told text has an end, and before each of these rows no turn was missed, and all of its pairs
-        came lately, in segments that were received."""
+        """Whether the told text has an end, and before each row no turn was missed, and all its pairs came lately, in received segments."""
         pairs, size = {**self._earlier, **self._now}, self._shape.pairs
         kept: Array = ~turns.missed[cuts] & told.has_end
         if not kept.any():
@@ -370,13 +360,11 @@ class Message:
         self._recent.extend(flags[::-1])
 
     def _part(self, pairs: Dict[int, Pair]) -> None:
-        """Sets the pairs of this turn, and those of earlier ones."""
         self._now = {position: pair for position, pair in pairs.items() if pair[2] == self._turn}
         self._earlier = {position: pair for position, pair in pairs.items() if pair[2] != self._turn}
 
     def _follow(self, rows: List[Row], row: int, end: int, said: Distinct, told: WholeText) -> int:
-        """Notes when each pair came last in the rows that say the told text again, and returns the first that does
-        not, or the end."""
+        """Notes when each pair came last in the rows that say the told text again, and returns the first that does not, or the end."""
         size, now, before, is_length = self._shape.pairs, self._now, self._segment, self._length == told.size
         for row in range(row, end):
             place, number, run, is_missed = rows[row]
@@ -443,8 +431,7 @@ class Message:
         self._last_segment, self._length = UNKNOWN, 0
 
     def _end_turn(self, is_complete: bool) -> None:
-        """The end of a turn. If it `is_complete`, no segment came after the last that was heard: two such turns in a
-        row that end alike have the length of the text."""
+        """The end of a turn; if it `is_complete`, with its last segment. Two such in a row that end alike have the text's length."""
         if self._shape.is_text and is_complete:
             ends_alike = self._segment == self._last_segment
             self._length = (self._segment + 1) * self._shape.pairs if ends_alike else 0
@@ -453,13 +440,6 @@ class Message:
 
     def _is_fresh(self, pair: Pair, place: int) -> bool:
         return place - pair[3] <= TEXT_BITS if self._shape.is_text else self._turn - pair[2] <= NAME_TURNS
-
-    def _fresh(self, place: int) -> Dict[int, Pair]:
-        """The pairs of earlier turns that are not too old."""
-        earlier, least = self._earlier.items(), place - TEXT_BITS
-        if self._shape.is_text:
-            return {position: pair for position, pair in earlier if pair[3] >= least}
-        return {position: pair for position, pair in earlier if self._turn - pair[2] <= NAME_TURNS}
 
     def _whole(self, pairs: Dict[int, Pair]) -> Optional[bytes]:
         """The characters of a text whose pairs are all known and trusted. It is told then."""
@@ -470,14 +450,11 @@ class Message:
             if pair is None:
                 return None
             found.append(pair)
-        if sum([grade == SINGLE for _, grade, _, _ in found]) > self._most_singles():
+        share = sum(self._recent) * RECENT
+        most = next((most for valid, most in SINGLES if share >= valid * len(self._recent)), 0)
+        if sum([grade == SINGLE for _, grade, _, _ in found]) > most:
             return None
         return self._tell(found, self._ends[found[-1][0]] if ends else UNKNOWN)
-
-    def _most_singles(self) -> int:
-        """How many pairs may be single, by the share of valid ones among those received lately."""
-        share = sum(self._recent) * RECENT
-        return next((most for valid, most in SINGLES if share >= valid * len(self._recent)), 0)
 
     def _tell(self, found: List[Pair], last: int) -> bytes:
         """Notes the pairs of the text that is told, all of which are trusted from now on."""

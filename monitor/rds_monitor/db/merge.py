@@ -1,7 +1,5 @@
 """Two databases as one: what the other has is added, all in one transaction, or nothing if both tell different things."""
 
-from __future__ import annotations
-
 import sqlite3
 from typing import Any, Dict, List, Tuple
 

@@ -1,8 +1,6 @@
 """Rows of a session as rows of the database: minutes, events, outages. A part is a whole session, or an hour of one that goes
 on; the contents, and an outage in progress, go on in the next part."""
 
-from __future__ import annotations
-
 from typing import Dict, Iterator, List, NamedTuple, Optional, Tuple
 
 import numpy
@@ -18,14 +16,11 @@ from ..rows.items import GROUP, GROUP_BITS, ITEM, Rows, Source, Totals
 from ..rows.listing import Listing, begins_of, ends_of
 
 MINUTE_BITS = 71250.0
-# How many bits after a minute its last group may come.
-SLACK = 2 * GROUP_BITS
+SLACK = 2 * GROUP_BITS  # how many bits after a minute its last group may come
 OUTAGE_PERCENT, OUTAGE_SECONDS = 10, 1
 NAMES = ["".join(type_names(kind)) for kind in range(TYPES)]
-# The clock time changes each minute, and its offset is a column of the minutes.
-NOT_STORED = ("ct",)
-# A name that scrolls changes each few seconds: the rest of its changes are counted.
-EVENTS_PER_MINUTE = 6
+NOT_STORED = ("ct",)  # the clock time changes each minute, and its offset is a column of the minutes
+EVENTS_PER_MINUTE = 6  # a name that scrolls changes each few seconds: the rest of its changes are counted
 
 
 class MinuteRow(NamedTuple):
@@ -136,7 +131,6 @@ class Part:
         self._reach(int((place - SLACK) // self.bits))
 
     def _reach(self, minute: int) -> None:
-        """Completes the minutes before this one."""
         while self._at < minute:
             self._complete((self._at + 1) * self.bits)
 
@@ -174,8 +168,7 @@ def mixes_of(rows: Rows, minutes: Rows) -> Rows:
     """Groups by type in each of some minutes, whose numbers from 0 on are those of the rows."""
     index = (minutes * TYPES + type_index(rows))[rows["what"] == GROUP]
     count = int(minutes[-1]) + 1
-    found: Rows = numpy.bincount(index, minlength=count * TYPES).reshape(count, TYPES)
-    return found
+    return numpy.bincount(index, minlength=count * TYPES).reshape(count, TYPES)
 
 
 def counts_of(mix: Rows) -> Dict[str, int]:
@@ -184,8 +177,7 @@ def counts_of(mix: Rows) -> Dict[str, int]:
 
 
 class Session:
-    """A session of an input as one part; `totals` are known once it is closed, if they are at all, and so is whether soft decisions
-    corrected its blocks."""
+    """A session of an input as one part. Once closed it has `totals`, if at all, and whether soft decisions corrected its blocks."""
 
     def __init__(self, number: int, clock: Clock, is_soft: bool, begin: int = 0):
         self.number, self.clock, self.is_soft = number, clock, is_soft

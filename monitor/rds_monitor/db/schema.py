@@ -1,9 +1,6 @@
 """The tables and views of a database, as the scripts that make them: one per version."""
 
-from __future__ import annotations
-
-# The mark of a database of this program, in the header of its file: "RDSm".
-MARK = 0x5244536D
+MARK = 0x5244536D  # the mark of a database of this program, in the header of its file: "RDSm"
 
 TABLES = """
 CREATE TABLE recordings(

@@ -1,7 +1,5 @@
 """How a station stands: its state in a word, and for how long it was received, or why not."""
 
-from __future__ import annotations
-
 import sqlite3
 from typing import Any, Dict, Mapping, NamedTuple, Optional
 
@@ -68,10 +66,7 @@ class Availability(NamedTuple):
 
 
 def availability(data: sqlite3.Connection, station: str, begin: float, end: float) -> Availability:
-    query = (
-        "SELECT kind, SUM(MIN(end_at, ?) - MAX(begin_at, ?)) FROM spans"
-        " WHERE station = ? AND begin_at < ? AND end_at > ? GROUP BY kind"
-    )
+    query = "SELECT kind, SUM(MIN(end_at, ?) - MAX(begin_at, ?)) FROM spans WHERE station = ? AND begin_at < ? AND end_at > ? GROUP BY kind"
     found = dict(data.execute(query, (end, begin, station, end, begin)).fetchall())
     session = min(found.get("session", 0.0), end - begin)
     noise, known = min(found.get("noise", 0.0), session), max(session, found.get("watched", 0.0))

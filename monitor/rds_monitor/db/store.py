@@ -1,10 +1,7 @@
 """A database of recordings, by SQLite: a row per minute, events, outages, and the groups if asked for (schema.py).
 
 A recording is known by its name, and one of that name replaces it, all in one transaction. Positions are stored, and
-views give their times by the start and the rate of the session: a clock that becomes known later is two values.
-"""
-
-from __future__ import annotations
+views give their times by the start and the rate of the session: a clock that becomes known later is two values."""
 
 import argparse
 import json
@@ -13,7 +10,7 @@ import sqlite3
 import time
 from contextlib import contextmanager
 from itertools import chain
-from typing import Any, Dict, Iterable, Iterator, List, NamedTuple, Optional, Sequence, Tuple
+from typing import Any, Dict, Iterable, Iterator, List, Optional, Sequence, Tuple
 
 from ..rows.clock import clock_options
 from ..rows.hours import clock_of_hour, hour_of
@@ -49,8 +46,7 @@ def roll_back(database: sqlite3.Connection) -> None:
 
 
 class SessionRows:
-    """Writes the rows of sessions into an open database: each once. A minute without a group names no contents, unless
-    `idle_too`."""
+    """Writes the rows of sessions into an open database: each once. A minute without a group names no contents, unless `idle_too`."""
 
     def __init__(self, database: sqlite3.Connection, idle_too: bool = False):
         self._database, self._idle_too = database, idle_too
@@ -87,8 +83,7 @@ class SessionRows:
         if key not in self._facts:
             if len(self._facts) > MOST_FACTS:
                 self._facts = {}
-            # NULLs are never the same to UNIQUE.
-            query = "SELECT id FROM facts WHERE item = ? AND value IS ?"
+            query = "SELECT id FROM facts WHERE item = ? AND value IS ?"  # NULLs are never the same to UNIQUE
             found = self._database.execute(query, key).fetchone()
             insert = "INSERT INTO facts(item, value) VALUES(?, ?)"
             number = found[0] if found else self._database.execute(insert, key).lastrowid
@@ -96,11 +91,9 @@ class SessionRows:
         return self._facts[key]
 
 
-class Recorded(NamedTuple):
-    """A session, and its minutes, events and outages."""
-
-    session: Session
-    told: Told
+# As sessions_of gives them; and a session with its minutes, events and outages.
+Chunks = Iterable[Tuple[Session, Rows]]
+Recorded = Tuple[Session, Told]
 
 
 class Store:
@@ -171,9 +164,7 @@ class Store:
     def close(self) -> None:
         self._database.close()
 
-    def add(
-        self, name: str, station: Optional[str], chunks: Iterable[Tuple[Session, Rows]], groups: bool
-    ) -> None:
+    def add(self, name: str, station: Optional[str], chunks: Chunks, groups: bool) -> None:
         """A recording, given as by `sessions_of`, under this name, in place of the one that had it."""
         try:
             sessions = self._read(chunks, groups)
@@ -191,7 +182,7 @@ class Store:
         except sqlite3.Error as error:
             raise Fault(f"the database: {error}") from None
 
-    def _read(self, chunks: Iterable[Tuple[Session, Rows]], groups: bool) -> List[Recorded]:
+    def _read(self, chunks: Chunks, groups: bool) -> List[Recorded]:
         self._database.execute("DELETE FROM temp.groups")
         found: Dict[int, Recorded] = {}
         self._database.execute("BEGIN")
@@ -199,7 +190,7 @@ class Store:
         for session, rows in chunks:
             if groups:
                 self._database.executemany(insert, group_rows(session.number, rows))
-            kept = found.setdefault(session.number, Recorded(session, Told([], [], [], [], []))).told
+            _, kept = found.setdefault(session.number, (session, Told([], [], [], [], [])))
             told = session.part.taken()
             kept.minutes.extend(told.minutes)
             kept.events.extend(told.events)
@@ -254,9 +245,6 @@ def group_rows(session: int, rows: Rows) -> Iterable[Sequence[Any]]:
     return ((session, *pair) for pair in zip(*columns))
 
 
-# ---- the command
-
-
 def options_db(parser: argparse.ArgumentParser) -> None:
     parser.description = (
         "Add recordings to an SQLite database, which is made if need be: a row per minute, events of the "
@@ -290,8 +278,7 @@ def run_db(arguments: argparse.Namespace) -> int:
     for path in paths:
         source = open_input(arguments, path, sessions=True)
         sessions = sessions_of(source, clock_of_hour(arguments, path))
-        # An input that cannot be read makes no database.
-        first = next(sessions)
+        first = next(sessions)  # an input that cannot be read makes no database
         store = store or Store(arguments.database)
         name = os.path.basename(path) if arguments.name is None else arguments.name
         station = arguments.station

@@ -1,27 +1,23 @@
 """The station's clock: the groups of clock time (CT), and the start and the rate of a recording by them."""
 
-from __future__ import annotations
-
 import argparse
 import statistics
 from typing import Iterator, List, NamedTuple, Tuple
 
 from ..rows.clock import DAY, EPOCH_MJD, RATE, Clock, utc_text
-from ..rows.inputs import describe, input_options, open_input
+from ..rows.inputs import input_options, open_input
 from ..rows.items import GROUP, VALID, VERSION_A, Fault, Rows
 
 
 class Tick(NamedTuple):
-    """A group of clock time: the position after its last bit, at which the minute begins, and that minute in seconds
-    since 1970."""
+    """A group of clock time: the position after its last bit, at which the minute begins, and that minute in seconds since 1970."""
 
     place: int
     time: int
 
 
 def ticks_of(rows: Rows) -> List[Tick]:
-    """The groups of clock time (4A, IEC 62106 section 3.1.5.6) whose four blocks are valid. Hour 24 and minute 60 are
-    none."""
+    """The groups of clock time (4A, IEC 62106 section 3.1.5.6) whose four blocks are valid. Hour 24 and minute 60 are none."""
     at = (rows["what"] == GROUP) & (rows["number"] == 4) & (rows["version"] == VERSION_A)
     found = rows[at]
     for block in (1, 2, 3, 4):
@@ -113,17 +109,12 @@ def fit(ticks: List[Tick]) -> Fit:
     return Fit(ticks, stretches, Clock(start, rate), 2 * error / RATE * 1e6)
 
 
-# ---- the command
-
-
 def options_clock(parser: argparse.ArgumentParser) -> None:
-    describe(
-        parser,
-        "Find the start and the rate of a recording by the clock time (CT) of its station. A group of "
-        "CT ends as a minute begins, within a tenth of a second.",
-        "rds-monitor clock monday.bin",
-        "rds-monitor errors $(rds-monitor clock --options monday.bin) monday.bin > errors.csv",
-    )
+    """Find the start and the rate of a recording by the clock time (CT) of its station. A group of CT ends as a minute begins, within a
+    tenth of a second.
+
+    rds-monitor clock monday.bin
+    rds-monitor errors $(rds-monitor clock --options monday.bin) monday.bin > errors.csv"""
     input_options(parser)
     form = parser.add_mutually_exclusive_group()
     of_options = "print --start TIME --rate BITS for the other commands"

@@ -1,22 +1,19 @@
 """Block errors by interval: the command `errors`. What was sent is counted by the clock, whether or not there are groups."""
 
-from __future__ import annotations
-
 import argparse
 from typing import Any, Iterator, List, NamedTuple
 
 import numpy
 
-from ..rows.clock import clock_of_options, clock_options, number_of
+from ..rows.clock import clock_of, clock_options, number_of
 from ..rows.extent import Extent, write_table
-from ..rows.inputs import describe, input_options, open_input
+from ..rows.inputs import input_options, open_input
 from ..rows.items import BLOCK_BITS, CORRECTED, GROUP_BITS, LOST, VALID, Rows
 from ..rows.listing import groups_in, kinds_of, places_of
 
 
 class Interval(NamedTuple):
-    """Blocks of an interval: those sent by the clock, and of these those valid, corrected, uncorrectable and not
-    read."""
+    """Blocks of an interval: those sent by the clock, and of these those valid, corrected, uncorrectable and not read."""
 
     begin: float
     end: float
@@ -37,8 +34,7 @@ class Interval(NamedTuple):
 
 
 class Errors:
-    """Blocks by intervals of `bits` bits, from the interval of number `first` on. A block belongs to the interval of its first
-    bit."""
+    """Blocks by intervals of `bits` bits, from the interval of number `first` on. A block belongs to the interval of its first bit."""
 
     def __init__(self, bits: float, first: int = 0):
         self.bits, self._first = bits, first
@@ -46,19 +42,17 @@ class Errors:
         self._table: Rows = numpy.zeros((0, 4), "i8")
 
     def _grow(self, count: int) -> None:
-        """Makes room for this number of intervals."""
         if count > len(self._table):
             more = max(count, 2 * len(self._table)) - len(self._table)
             self._table = numpy.concatenate([self._table, numpy.zeros((more, 4), "i8")])
-
-    def _slot(self, place: int) -> int:
-        return max(int(place / self.bits) - self._first, 0)
 
     def add(self, rows: Rows) -> None:
         groups = groups_in(rows)
         if not len(groups):
             return
-        first, after = self._slot(groups["place"][0]), self._slot(groups["place"][-1] + GROUP_BITS) + 1
+        edges = groups["place"][0], groups["place"][-1] + GROUP_BITS
+        first, after = (max(int(place / self.bits) - self._first, 0) for place in edges)
+        after += 1
         self._grow(after)
         kinds, cuts = kinds_of(groups).reshape(-1), self._cuts(groups, first, after)
         read = numpy.flatnonzero(kinds)
@@ -79,8 +73,7 @@ class Errors:
         group = numpy.maximum(numpy.searchsorted(groups["place"], edges) - 1, 0)
         blocks = numpy.ceil((edges - places_of(groups[group])[:, 0]) / BLOCK_BITS)
         within = 4 * group + numpy.clip(blocks, 0, 4).astype("i8")
-        cuts: Rows = numpy.concatenate([[0], within, [4 * len(groups)]])
-        return cuts
+        return numpy.concatenate([[0], within, [4 * len(groups)]])
 
     def row(self, number: int) -> List[int]:
         """Of an interval: where its last block ends, and how many are uncorrectable, valid, and corrected."""
@@ -89,7 +82,6 @@ class Errors:
         return row
 
     def intervals(self, begin: int, end: int) -> Iterator[Interval]:
-        """The intervals of an extent."""
         counter = IntervalCounter(self, begin)
         while counter.at * self.bits < end:
             yield counter.upto(end)
@@ -128,13 +120,11 @@ def interval_of(text: str) -> float:
 
 
 def options_errors(parser: argparse.ArgumentParser) -> None:
-    describe(
-        parser,
-        "Block errors over time, as CSV: per interval the blocks sent by the clock, those valid, "
-        "corrected, uncorrectable (lost) and sent while there was no sync (no_sync), and how many per cent"
-        " of those sent are not valid. Blocks corrected by soft decisions have a column of their own (soft).",
-        "rds-monitor errors --every 60 --start 2026-03-29T00:30:00Z monday.bin > errors.csv",
-    )
+    """Block errors over time, as CSV: per interval the blocks sent by the clock, those valid, corrected, uncorrectable (lost) and sent
+    while there was no sync (no_sync), and how many per cent of those sent are not valid. Blocks corrected by soft decisions have a column
+    of their own (soft).
+
+    rds-monitor errors --every 60 --start 2026-03-29T00:30:00Z monday.bin > errors.csv"""
     input_options(parser)
     text = "the length of an interval (60)"
     parser.add_argument("--every", type=interval_of, default=60.0, metavar="SECONDS", help=text)
@@ -142,7 +132,7 @@ def options_errors(parser: argparse.ArgumentParser) -> None:
 
 
 def run_errors(arguments: argparse.Namespace) -> int:
-    clock = clock_of_options(arguments)
+    clock = clock_of(arguments)
     errors, extent = Errors(arguments.every * clock.rate), Extent(open_input(arguments))
     for rows in extent.chunks():
         errors.add(rows)

@@ -1,15 +1,13 @@
 """The command `groups`: groups as lines of four hexadecimal words, as redsea and RDS Spy read them."""
 
-from __future__ import annotations
-
 import argparse
 import sys
-from typing import Any, List
+from typing import Iterator
 
 import numpy
 
-from ..rows.clock import Clock, clock_of, clock_options, utc_texts
-from ..rows.inputs import describe, input_options, open_input
+from ..rows.clock import Clock, clock_of, clock_options, milliseconds, utc_texts
+from ..rows.inputs import input_options, open_input
 from ..rows.items import BLOCKS, VALID, Misuse, Rows
 from ..rows.listing import groups_in
 
@@ -29,21 +27,23 @@ def text_of(groups: Rows) -> bytes:
     return lines.tobytes()
 
 
-def spy_times(seconds: Any) -> List[str]:
-    """Times since 1970 as RDS Spy writes them."""
-    stamps = numpy.datetime_as_string((seconds * 1000 + 0.5).astype("i8").astype("M8[ms]"))
-    return [f"@{stamp[:10].replace('-', '/')} {stamp[11:22]}" for stamp in stamps.tolist()]
+def times_of(places: Rows, clock: Clock, spy: bool) -> Iterator[bytes]:
+    """The times of groups: as RDS Spy writes them, or in UTC if it is known, or in seconds."""
+    if clock.start is None:
+        times = milliseconds(places, clock.rate)
+    else:
+        times = utc_texts(clock.start + places / clock.rate)
+    for time in times:
+        yield (f"@{time[:10].replace('-', '/')} {time[11:22]}" if spy else time).encode("ascii")
 
 
 def options_groups(parser: argparse.ArgumentParser) -> None:
-    describe(
-        parser,
-        "The groups as lines of four hexadecimal words, for redsea, RDS Spy or rds encode. A block that"
-        " is not known is written ----. The input may be such lines too.",
-        "rds-monitor groups monday.bin | redsea --input hex",
-        "rds-monitor groups --whole monday.bin | rds encode > clean.bin",
-        "rds-monitor groups --spy --start 2026-03-29T00:30:00Z monday.bin > monday.spy",
-    )
+    """The groups as lines of four hexadecimal words, for redsea, RDS Spy or rds encode. A block that is not known is written ----. The
+    input may be such lines too.
+
+    rds-monitor groups monday.bin | redsea --input hex
+    rds-monitor groups --whole monday.bin | rds encode > clean.bin
+    rds-monitor groups --spy --start 2026-03-29T00:30:00Z monday.bin > monday.spy"""
     input_options(parser)
     parser.add_argument("--whole", action="store_true", help="leave out groups that lack a block")
     form = parser.add_mutually_exclusive_group()
@@ -60,19 +60,9 @@ def run_groups(arguments: argparse.Namespace) -> int:
             raise Misuse("--spy writes UTC: say --start, as rds-monitor clock --options finds it")
         text = text_of(groups)
         if arguments.spy or arguments.times:
-            text = _with_times(text, groups, clock, arguments.spy)
+            times = times_of(groups["place"], clock, arguments.spy)
+            text = b"".join(b"%s %s\n" % pair for pair in zip(text.splitlines(), times))
         if arguments.whole:
             text = b"".join(line for line in text.splitlines(keepends=True) if b"-" not in line[:19])
         sys.stdout.buffer.write(text)
     return 0
-
-
-def _with_times(text: bytes, groups: Rows, clock: Clock, spy: bool) -> bytes:
-    """The lines with the times of their groups: for RDS Spy, or in UTC if it is known, or in seconds."""
-    seconds = groups["place"] / clock.rate
-    if clock.start is None:
-        times = [f"{second:.3f}" for second in seconds.tolist()]
-    else:
-        times = (spy_times if spy else utc_texts)(clock.start + seconds)
-    lines = text.decode("ascii").splitlines()
-    return "".join([f"{line} {time}\n" for line, time in zip(lines, times)]).encode("ascii")

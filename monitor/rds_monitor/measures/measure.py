@@ -1,20 +1,16 @@
 """Which PI codes and group types were received, and which blocks were corrected: chunk by chunk, by numpy."""
 
-from __future__ import annotations
-
 import argparse
 from typing import Any, Dict, Iterator, List, NamedTuple, Optional, Tuple
 
 import numpy
 
-from ..rows.clock import Clock, clock_of_options, clock_options, number_of
+from ..rows.clock import Clock, clock_of, clock_options, number_of, option_type
 from ..rows.extent import Extent, write_table
-from ..rows.inputs import describe, input_options, open_input
+from ..rows.inputs import input_options, open_input
 from ..rows.items import BLOCKS, CORRECTED, GROUP, UNKNOWN_TYPE, VALID, Rows, burst_lengths
 from ..rows.listing import OFFSET_NAMES, ends_of, groups_in, kinds_of, places_of
 from .errors import interval_of
-
-# ---- PI codes
 
 
 class Stretch(NamedTuple):
@@ -64,19 +60,13 @@ class Programmes:
         return [stretch] if stretch and stretch.groups >= self._least else []
 
 
-def count_of(text: str) -> int:
-    if not text.isascii() or not text.isdigit():
-        raise argparse.ArgumentTypeError(f"{text!r} is no number of groups")
-    return int(text)
+count_of = option_type("[0-9]+", int, "is no number of groups")
 
 
 def options_programmes(parser: argparse.ArgumentParser) -> None:
-    describe(
-        parser,
-        "Which PI codes were received and when, as CSV: stretches of groups that have one in a valid "
-        "block 1.",
-        "rds-monitor programmes --least 10 monday.bin",
-    )
+    """Which PI codes were received and when, as CSV: stretches of groups that have one in a valid block 1.
+
+    rds-monitor programmes --least 10 monday.bin"""
     input_options(parser)
     text = "the shortest stretch told (3): noise gives some of 1"
     parser.add_argument("--least", type=count_of, default=3, metavar="GROUPS", help=text)
@@ -86,7 +76,7 @@ def options_programmes(parser: argparse.ArgumentParser) -> None:
 
 
 def run_programmes(arguments: argparse.Namespace) -> int:
-    clock, extent = clock_of_options(arguments), Extent(open_input(arguments))
+    clock, extent = clock_of(arguments), Extent(open_input(arguments))
     names = "begin_s end_s pi groups begin_bit end_bit".split()
     found = programmes_in(extent, Programmes(arguments.least, arguments.pause * clock.rate))
     rows = ([*clock.texts(*ends), f"{pi:04X}", count, *ends, *clock.utc(*ends)] for pi, count, *ends in found)
@@ -98,8 +88,6 @@ def programmes_in(extent: Extent, programmes: Programmes) -> Iterator[Stretch]:
         yield from programmes.add(rows)
     yield from programmes.close()
 
-
-# ---- group types
 
 TYPES = 17 * 8
 
@@ -144,20 +132,18 @@ class Mix:
 
 
 def options_types(parser: argparse.ArgumentParser) -> None:
-    describe(
-        parser,
-        "Which group types were received, as CSV: groups with a valid block 2, groups with a corrected "
-        "one, and when the first and the last began. Groups with an unknown type have the type -.",
-        "rds-monitor types monday.bin",
-        "rds-monitor types --every 3600 monday.bin > mix.csv",
-    )
+    """Which group types were received, as CSV: groups with a valid block 2, groups with a corrected one, and when the first and the last
+    began. Groups with an unknown type have the type -.
+
+    rds-monitor types monday.bin
+    rds-monitor types --every 3600 monday.bin > mix.csv"""
     input_options(parser)
     parser.add_argument("--every", type=interval_of, metavar="SECONDS", help="by intervals of this length")
     clock_options(parser)
 
 
 def run_types(arguments: argparse.Namespace) -> int:
-    clock, extent = clock_of_options(arguments), Extent(open_input(arguments))
+    clock, extent = clock_of(arguments), Extent(open_input(arguments))
     names = "type version groups corrected".split()
     if arguments.every is not None:
         bits = arguments.every * clock.rate
@@ -190,23 +176,17 @@ def mixes_in(extent: Extent, bits: float) -> Iterator[Tuple[float, Mix]]:
     yield at * bits, mix
 
 
-# ---- corrected blocks
-
-
 def options_corrected(parser: argparse.ArgumentParser) -> None:
-    describe(
-        parser,
-        "Which blocks were corrected and how, as CSV: the group's position, type and version; the "
-        "number, offset and word of the block; the error mask, its length in bits, and when the "
-        "block began.",
-        "rds-monitor corrected --burst 5 monday.bin | cut -d, -f8 | sort | uniq -c",
-    )
+    """Which blocks were corrected and how, as CSV: the group's position, type and version; the number, offset and word of the block; the
+    error mask, its length in bits, and when the block began.
+
+    rds-monitor corrected --burst 5 monday.bin | cut -d, -f8 | sort | uniq -c"""
     input_options(parser)
     clock_options(parser)
 
 
 def run_corrected(arguments: argparse.Namespace) -> int:
-    clock, extent = clock_of_options(arguments), Extent(open_input(arguments))
+    clock, extent = clock_of(arguments), Extent(open_input(arguments))
     names = "bit type version block offset word burst burst_length time_s".split()
     rows = (row for chunk in extent.chunks() for row in corrected_in(groups_in(chunk), clock))
     return write_table([*names, *clock.names("time")], rows)
@@ -215,12 +195,12 @@ def run_corrected(arguments: argparse.Namespace) -> int:
 def corrected_in(groups: Rows, clock: Clock) -> Iterator[List[Any]]:
     at, blocks = numpy.nonzero(kinds_of(groups) == CORRECTED)
     starts, index = groups["place"][at].tolist(), type_index(groups[at]).tolist()
-    words, bursts, offsets = (
-        numpy.stack([groups[f"{name}{block}"] for block in BLOCKS], 1)[at, blocks].tolist()
+    words, masks, offsets = (
+        numpy.stack([groups[f"{name}{block}"] for block in BLOCKS], 1)[at, blocks]
         for name in ("info", "burst", "offset")
     )
-    spans, places = burst_lengths(numpy.array(bursts, "u4")).tolist(), places_of(groups)[at, blocks].tolist()
-    columns = starts, index, (blocks + 1).tolist(), offsets, words, bursts, spans, places
-    for start, kind, block, offset, word, burst, span, place in zip(*columns):
-        cells = block, OFFSET_NAMES[offset], f"{word:04X}", f"{burst:07X}", span
-        yield [start, *type_names(kind), *cells, *clock.texts(place), *clock.utc(place)]
+    columns = (blocks + 1, offsets, words, masks, burst_lengths(masks), places_of(groups)[at, blocks])
+    for start, kind, *cells in zip(starts, index, *(column.tolist() for column in columns)):
+        block, offset, word, burst, span, place = cells
+        shown = block, OFFSET_NAMES[offset], f"{word:04X}", f"{burst:07X}", span
+        yield [start, *type_names(kind), *shown, *clock.texts(place), *clock.utc(place)]

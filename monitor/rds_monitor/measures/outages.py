@@ -1,16 +1,14 @@
 """When no RDS was received: the command `outages`."""
 
-from __future__ import annotations
-
 import argparse
 import math
 from typing import Iterator, List, Optional, Tuple
 
 import numpy
 
-from ..rows.clock import clock_of_options, clock_options, number_of
+from ..rows.clock import clock_of, clock_options, number_of
 from ..rows.extent import Extent, write_table
-from ..rows.inputs import describe, input_options, open_input
+from ..rows.inputs import input_options, open_input
 from ..rows.items import BLOCK_BITS, VALID, Rows
 from ..rows.listing import groups_in, kinds_of, places_of
 
@@ -78,13 +76,10 @@ def share_of(text: str) -> float:
 
 
 def options_outages(parser: argparse.ArgumentParser) -> None:
-    describe(
-        parser,
-        "When no RDS was received (the carrier may be up), as CSV: stretches in which no valid block "
-        "counts. A valid block counts if within some second it is one of at least --density per cent of"
-        " the blocks sent.",
-        "rds-monitor outages --shortest 2 monday.bin",
-    )
+    """When no RDS was received (the carrier may be up), as CSV: stretches in which no valid block counts. A valid block counts if within
+    some second it is one of at least --density per cent of the blocks sent.
+
+    rds-monitor outages --shortest 2 monday.bin"""
     input_options(parser)
     of_density, of_shortest = "of the blocks sent in a second (10)", "the shortest outage told (1)"
     parser.add_argument("--density", type=share_of, default=10.0, metavar="PERCENT", help=of_density)
@@ -93,7 +88,7 @@ def options_outages(parser: argparse.ArgumentParser) -> None:
 
 
 def run_outages(arguments: argparse.Namespace) -> int:
-    clock, extent = clock_of_options(arguments), Extent(open_input(arguments))
+    clock, extent = clock_of(arguments), Extent(open_input(arguments))
     names = "begin_s end_s length_s begin_bit end_bit".split()
     found = outages_in(extent, Outages(clock.rate, arguments.density, arguments.shortest))
     rows = ([*clock.texts(*ends, ends[1] - ends[0]), *ends, *clock.utc(*ends)] for ends in found)

@@ -1,30 +1,25 @@
 """The rows of an input as a table with times: CSV with names of columns, or Parquet with numbers."""
 
-from __future__ import annotations
-
 import argparse
 import importlib
 from typing import Any, Dict, Iterator, Tuple
 
 import numpy
 
-from ..rows.clock import Clock, clock_of_options, clock_options, milliseconds, utc_texts
+from ..rows.clock import Clock, clock_of, clock_options, milliseconds, utc_texts
 from ..rows.extent import Extent, write_table
 from ..rows.heads import HEADER
-from ..rows.inputs import describe, input_options, open_input
+from ..rows.inputs import input_options, open_input
 from ..rows.items import Fault, Rows
 from ..rows.listing import text_of
 
 
 def options_table(parser: argparse.ArgumentParser) -> None:
-    describe(
-        parser,
-        "The rows of a recording or listing as a table, with names of columns, the time in seconds from"
-        " the start of the recording, and, with --start, UTC. In other rows than groups, type is the "
-        "number of an acquired block.",
-        "rds-monitor table --start 2026-03-29T00:30:00Z monday.bin > monday.csv",
-        "rds-monitor table --parquet monday.parquet monday.bin",
-    )
+    """The rows of a recording or listing as a table, with names of columns, the time in seconds from the start of the recording, and, with
+    --start, UTC. In other rows than groups, type is the number of an acquired block.
+
+    rds-monitor table --start 2026-03-29T00:30:00Z monday.bin > monday.csv
+    rds-monitor table --parquet monday.parquet monday.bin"""
     input_options(parser)
     text = "write a Parquet file of numbers, named as in librds.ITEM"
     parser.add_argument("--parquet", metavar="FILE", help=text)
@@ -32,7 +27,7 @@ def options_table(parser: argparse.ArgumentParser) -> None:
 
 
 def run_table(arguments: argparse.Namespace) -> int:
-    clock, extent = clock_of_options(arguments), Extent(open_input(arguments))
+    clock, extent = clock_of(arguments), Extent(open_input(arguments))
     if arguments.parquet is not None:
         return _write_parquet(arguments.parquet, extent, clock)
     names = ["event", "bit", *HEADER.decode("ascii").split(",")[2:], "time_s", *clock.names("time")]
@@ -57,15 +52,15 @@ def columns_of(rows: Rows, clock: Clock) -> Dict[str, Any]:
 
 
 def _write_parquet(path: str, extent: Extent, clock: Clock) -> int:
+    tables = (columns_of(rows, clock) for rows in extent.chunks())
     try:
         arrow: Any = importlib.import_module("pyarrow")
         parquet: Any = importlib.import_module("pyarrow.parquet")
     except ImportError:
-        return _by_pandas(path, extent, clock)
+        return _by_pandas(path, tables)
     writer: Any = None
     try:
-        for rows in extent.chunks():
-            table = arrow.table(columns_of(rows, clock))
+        for table in map(arrow.table, tables):
             writer = writer or parquet.ParquetWriter(path, table.schema)
             writer.write_table(table)
     finally:
@@ -74,12 +69,11 @@ def _write_parquet(path: str, extent: Extent, clock: Clock) -> int:
     return 0
 
 
-def _by_pandas(path: str, extent: Extent, clock: Clock) -> int:
+def _by_pandas(path: str, tables: Iterator[Dict[str, Any]]) -> int:
     """All rows at once: its other engine, fastparquet, writes whole frames."""
     try:
         pandas: Any = importlib.import_module("pandas")
-        chunks = [pandas.DataFrame(columns_of(rows, clock)) for rows in extent.chunks()]
-        pandas.concat(chunks, ignore_index=True).to_parquet(path)
+        pandas.concat(map(pandas.DataFrame, tables), ignore_index=True).to_parquet(path)
     except ImportError:
         raise Fault("Parquet needs pyarrow, or python3-pandas and python3-fastparquet") from None
     return 0

@@ -1,7 +1,5 @@
 """The page of HTML: a station is a dictionary of what is told of it."""
 
-from __future__ import annotations
-
 import base64
 import hashlib
 import importlib
@@ -53,7 +51,8 @@ def rank_of(station: Station) -> Tuple[Any, ...]:
 
 def page_of(title: str, stations: Sequence[Station], **more: Any) -> str:
     """The page: every text of a station is escaped by the template, or data that the script shows as text. Of a station that has a
-    `page` of its own it shows the tile; `links` are to other pages, and `table` is one of texts with links.
+    `page` of its own it shows the tile; `links` are to other pages, and `table` has a caption, a head, and rows of cells: a text and the page
+    that it links to, or none.
     """
     template, policy, parts = template_of()
     stations = sorted(stations, key=rank_of)

@@ -1,11 +1,9 @@
 """A station's line of time: all that its page draws, in seconds from a beginning, and as few rows as can be seen."""
 
-from __future__ import annotations
-
 import base64
 import math
 from collections import Counter
-from typing import Any, Dict, List, NamedTuple, Optional, Sequence, Tuple
+from typing import Any, Callable, Dict, List, NamedTuple, Optional, Sequence, Tuple
 
 import numpy
 
@@ -13,15 +11,11 @@ from ..content.charset import printable
 from ..content.info import label
 from ..measures.errors import Interval
 
-# Of a list at most that many rows are on a page: of more, one per step.
-MOST_LISTED = 2000
-# Counts of an interval: sent, valid, corrected, uncorrectable, not read.
-COUNTS = Interval._fields[2:]
+MOST_LISTED = 2000  # of a list at most that many rows are on a page: of more, one per step
+COUNTS = Interval._fields[2:]  # counts of an interval: sent, valid, corrected, uncorrectable, not read
 LANES = "PI PS RT PTY TP TA AF EON".split()
-# Seconds between two parts of one session, or one outage, by which their ends may be off.
-CUT = 0.1
-# In place of the texts of a step.
-SEVERAL = "several texts"
+CUT = 0.1  # seconds between two parts of one session, or one outage, by which their ends may be off
+SEVERAL = "several texts"  # in place of the texts of a step
 Row = List[Any]
 Stretch = Tuple[float, float, str]
 
@@ -46,8 +40,7 @@ class Said(NamedTuple):
 def said(item: str, value: Optional[str]) -> Said:
     name, text = label(item), printable(value or "")
     first = name.split(" ")[0]
-    # There are several of these; RT flag is no RT.
-    lane = first if first in ("AF", "EON") else name
+    lane = first if first in ("AF", "EON") else name  # there are several of these; RT flag is no RT
     shown = f"{name[4:]}: {text}" if lane == "EON" and text else text
     return Said(name, text, lane if lane in LANES else "", shown)
 
@@ -122,11 +115,15 @@ class TimeLine:
 
     def fewer(self, step: float, most: int = MOST_LISTED, interval: Optional[float] = None) -> "TimeLine":
         """At most some rows in each list, one per `step` seconds where there are more. Blocks are by `interval`, or else by `step`."""
+
+        def few(rows: List[Any], make: Callable[[List[Any], float], List[Any]]) -> List[Any]:
+            return rows if len(rows) <= most else make(rows, step)
+
         line, interval = TimeLine(), interval or step
         line.parts = [Counted(part.at, interval, merged(part, interval)) for part in self.parts]
-        line.sessions, line.outages = (by_step(rows, step, most) for rows in (self.sessions, self.outages))
-        line.mix, line.clock = mixed(self.mix, step, most), averaged(self.clock, step, most)
-        line.lanes = {lane: by_text(stretches, step, most) for lane, stretches in self.lanes.items()}
+        line.sessions, line.outages = few(self.sessions, by_step), few(self.outages, by_step)
+        line.mix, line.clock = few(self.mix, mixed), few(self.clock, averaged)
+        line.lanes = {lane: few(stretches, by_text) for lane, stretches in self.lanes.items()}
         counts = Counter(item for _, item, _ in self.events)
         # Items that change most are left out first.
         while sum(counts.values()) > most and len(counts) > 1:
@@ -165,9 +162,6 @@ class TimeLine:
         return {**told, "texts": list(texts)}
 
 
-# ---- one row per step
-
-
 def merged(part: Counted, step: float) -> Any:
     """The counts by longer intervals, of a whole number of its own."""
     every = round(step / part.step)
@@ -176,10 +170,8 @@ def merged(part: Counted, step: float) -> Any:
     return numpy.add.reduceat(part.counts, numpy.arange(0, len(part.counts), every))
 
 
-def by_step(spans: List[Row], step: float, most: int) -> List[Row]:
-    """Times with sums: of more, the sums in each step. A time over several steps has its share in each."""
-    if len(spans) <= most:
-        return spans
+def by_step(spans: List[Row], step: float) -> List[Row]:
+    """The sums in each step of times with sums. A time over several steps has its share in each."""
     sums: Dict[int, Any] = {}
     for begin, end, *counts in spans:
         for slot in range(int(begin // step), max(math.ceil(end / step), int(begin // step) + 1)):
@@ -189,33 +181,22 @@ def by_step(spans: List[Row], step: float, most: int) -> List[Row]:
     return [[slot * step, slot * step + step, *row.tolist()] for slot, row in sorted(sums.items())]
 
 
-def mixed(mix: List[Row], step: float, most: int) -> List[Row]:
-    if len(mix) <= most:
-        return mix
-    sums: Dict[float, Dict[str, int]] = {}
+def mixed(mix: List[Row], step: float) -> List[Row]:
+    sums: Dict[float, "Counter[str]"] = {}
     for begin, _, counts in mix:
-        add_mix(sums.setdefault(begin // step * step, {}), counts)
+        sums.setdefault(begin // step * step, Counter()).update(counts)
     return [[begin, begin + step, counts] for begin, counts in sums.items()]
 
 
-def add_mix(sums: Dict[str, int], counts: Dict[str, int]) -> None:
-    for name, count in counts.items():
-        sums[name] = sums.get(name, 0) + count
-
-
-def averaged(clock: List[Row], step: float, most: int) -> List[Row]:
-    if len(clock) <= most:
-        return clock
+def averaged(clock: List[Row], step: float) -> List[Row]:
     found: Dict[float, List[float]] = {}
     for at, offset in clock:
         found.setdefault(at // step * step, []).append(offset)
     return [[at + step / 2, sum(offsets) / len(offsets)] for at, offsets in found.items()]
 
 
-def by_text(stretches: List[Stretch], step: float, most: int) -> List[Stretch]:
-    """Texts: of more, the one of each step, or that there are several."""
-    if len(stretches) <= most:
-        return stretches
+def by_text(stretches: List[Stretch], step: float) -> List[Stretch]:
+    """The text of each step, or that there are several."""
     texts: Dict[int, str] = {}
     for begin, end, text in stretches:
         slot = int(begin // step)

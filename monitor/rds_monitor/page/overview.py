@@ -1,20 +1,18 @@
 """A station's tile: the last minute, the last day as a line, how long ago the last whole group was, and an alarm."""
 
-from __future__ import annotations
-
 from typing import Any, Dict, List, NamedTuple, Optional, Sequence
 
 import numpy
 
 from ..db.standing import Standing, standing
+from ..rows.clock import DAY
 from .line import bad_percent
 
-DAY, POINTS = 86400, 96
+POINTS = 96
 
 
 class Span(NamedTuple):
-    """Blocks of a session: the seconds from the station's first bit to the session's, and for each `step` seconds
-    those sent and those valid."""
+    """Blocks of a session: the seconds from the station's first bit to its own, and for each `step` seconds those sent and those valid."""
 
     begin: float
     step: int
@@ -38,8 +36,7 @@ def last_minute(spans: Sequence[Span]) -> Optional[float]:
     """Per cent of bad blocks in the last minute with any, or in the last interval if that is longer."""
     for span in reversed(spans):
         count = max(1, 60 // span.step)
-        # The last interval may be shorter than a block.
-        sent = numpy.trim_zeros(span.sent, "b")
+        sent = numpy.trim_zeros(span.sent, "b")  # the last interval may be shorter than a block
         if len(sent):
             first = max(0, len(sent) - count)
             return bad_percent(int(sent[first:].sum()), int(span.valid[first : len(sent)].sum()))

@@ -49,18 +49,13 @@
       for (const [, , counts] of this.station.mix)
         for (const type in counts) sums.set(type, (sums.get(type) || 0) + counts[type]);
       const sorted = [...sums.keys()].sort((one, two) => sums.get(two) - sums.get(one)), most = sorted.slice(0, TYPES).sort();
-      if (sorted.length > TYPES)
-        for (const it of this.station.mix) it[2] = this.withOther(it[2], most);
-      return sorted.length > TYPES ? [...most, OTHER] : most;
-    }
-
-    withOther(counts, most) {
-      const told = {[OTHER]: 0};
-      for (const type in counts) {
-        if (most.includes(type)) told[type] = counts[type];
-        else told[OTHER] += counts[type];
+      if (sorted.length <= TYPES) return most;
+      for (const it of this.station.mix) {
+        const told = {[OTHER]: 0};
+        for (const type in it[2]) told[most.includes(type) ? type : OTHER] = it[2][type] + (most.includes(type) ? 0 : told[OTHER]);
+        it[2] = told;
       }
-      return told;
+      return [...most, OTHER];
     }
 
     nameTypes() {

@@ -1,7 +1,5 @@
 """A page to look at: block errors, outages, contents and group mix of stations, in one file that needs nothing else."""
 
-from __future__ import annotations
-
 import argparse
 import math
 import os
@@ -14,7 +12,7 @@ from ..content.charset import printable
 from ..content.info import label
 from ..db.parts import Session, Told, sessions_of
 from ..measures.errors import Errors
-from ..rows.clock import Clock, clock_of_options, clock_options
+from ..rows.clock import Clock, clock_of, clock_options
 from ..rows.inputs import input_options, open_input
 from ..rows.items import GROUP, GROUP_BITS, VALID, Fault, Misuse
 from .html import Station, page_of, told_of
@@ -25,17 +23,16 @@ from .years import write_years
 
 # A day of a recording has an interval per second. Longer extents have longer intervals: the page stays below a megabyte.
 MOST_INTERVALS = 86400
-# Intervals of all stations of a database on one page, of at least two minutes each.
-MOST_STORED = 43200
+MOST_STORED = 43200  # intervals of all stations of a database on one page, of at least two minutes each
 
 
 def options_report(parser: argparse.ArgumentParser) -> None:
-    parser.description = (
-        "A page of HTML that needs nothing else: block errors over time, outages, sessions, the group mix, the contents and their changes, "
-        "the station's clock, and the totals, with zoom. Several stations come with an overview, the worst first. An input may be a database "
-        "of rds-monitor db too. It needs Debian's python3-jinja2 and libjs-d3."
-    )
-    parser.epilog = "example:\n  rds-monitor report --start 2026-03-29T00:30:00Z monday.bin > monday.html\n  rds-monitor report --into pages year.db"
+    """A page of HTML that needs nothing else: block errors over time, outages, sessions, the group mix, the contents and their changes, the
+    station's clock, and the totals, with zoom. Several stations come with an overview, the worst first. An input may be a database of
+    rds-monitor db too. It needs Debian's python3-jinja2 and libjs-d3.
+
+    rds-monitor report --start 2026-03-29T00:30:00Z monday.bin > monday.html
+    rds-monitor report --into pages year.db"""
     input_options(parser, several=True)
     clock_options(parser)
     text = "of a database: pages by station, year and month in this folder, with each month's availability"
@@ -45,7 +42,7 @@ def options_report(parser: argparse.ArgumentParser) -> None:
 
 
 def run_report(arguments: argparse.Namespace) -> int:
-    clock = clock_of_options(arguments)
+    clock = clock_of(arguments)
     if arguments.into is not None:
         if len(arguments.input) != 1 or not is_database(arguments.input[0]):
             raise Misuse("--into is for one database")
@@ -55,9 +52,6 @@ def run_report(arguments: argparse.Namespace) -> int:
     stations = [station for path in arguments.input for station in stations_of(path, arguments, clock)]
     sys.stdout.write(page_of(arguments.title, stations))
     return 0
-
-
-# ---- what is told of an input
 
 
 def stations_of(path: str, arguments: argparse.Namespace, clock: Clock) -> List[Station]:
@@ -90,14 +84,12 @@ class RecordedLine:
         self._session: Optional[Session] = None
         # Where the session in progress and its last whole group begin; where all ends.
         self._at, self._whole, self._end = 0.0, 0.0, 0.0
-        # How many blocks soft decisions corrected, if they are taken.
-        self._soft: Optional[int] = None
+        self._soft: Optional[int] = None  # how many blocks soft decisions corrected, if they are taken
 
     def add(self, session: Session, rows: Any) -> None:
         if session is not self._session:
             self._session, self._seconds = session, Errors(session.clock.rate)
-            # It follows on the one before.
-            self._at = self._end
+            self._at = self._end  # it follows on the one before
             self._whole = self._at + session.part.begin / session.clock.rate
             self._begin = self._whole
         self._seconds.add(rows)

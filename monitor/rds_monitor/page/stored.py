@@ -1,7 +1,5 @@
 """Stations of a database of `rds-monitor db`, as a page shows them."""
 
-from __future__ import annotations
-
 import itertools
 import json
 import math
@@ -17,15 +15,15 @@ from ..content.charset import printable
 from ..db.schema import HELD, MARK
 from ..db.standing import Availability, Standing, standing_of
 from ..rows.items import Fault
-from .line import CUT, MOST_LISTED, SEVERAL, Counted, Lanes, Said, TimeLine, add_mix, join, said
-from .overview import DAY, Span, tile_of
+from ..rows.clock import DAY
+from .line import CUT, MOST_LISTED, SEVERAL, Counted, Lanes, Said, TimeLine, join, said
+from .overview import Span, tile_of
 
 Pairs = Iterable[Tuple[int, int]]
 MAGIC = b"SQLite format 3\0"
 # Seconds of an interval of a page. In two minutes there is one that is stored, though the sampler's clock is off.
 STEPS = (120, 3600, DAY)
-# With intervals of an hour the group mix is that of one minute in twenty.
-MIX_MINUTES = 20
+MIX_MINUTES = 20  # with intervals of an hour the group mix is that of one minute in twenty
 MOST_FACTS = 20000
 SESSIONS = "WHERE session IN (SELECT value FROM json_each(?))"
 OUTAGES = f"SELECT session, begin_place, end_place FROM outage_rows {SESSIONS} ORDER BY 1, 2"
@@ -42,13 +40,6 @@ def is_database(path: str) -> bool:
             return file.read(len(MAGIC)) == MAGIC
     except OSError:
         return False
-
-
-class Busy(NamedTuple):
-    """Columns of minutes whose item changes often, and the facts of all items that do."""
-
-    lanes: List[str]
-    facts: List[int]
 
 
 class StoredSession(NamedTuple):
@@ -112,8 +103,7 @@ class StoredStation:
         self.name, self._stored = name, stored
         self.held: Dict[str, str] = {}
         self._lanes, self._run, self._heard, self._done = Lanes(), -1, 0.0, 0
-        # Of the sessions that there are, those whose start is not known.
-        self.unknown = 0
+        self.unknown = 0  # of the sessions that there are, those whose start is not known
         self.sessions = sorted(self._sessions(with_unknown))
         self._stands: Optional[Standing] = None
         self._watched = self._look() if stored.is_watched else []
@@ -163,9 +153,7 @@ class StoredStation:
     def tile(self) -> Dict[str, Any]:
         """By the minutes of the last day."""
         spans = []
-        query = (
-            "SELECT minute, sent, valid FROM minute_rows WHERE session = ? AND minute >= ? ORDER BY minute"
-        )
+        query = "SELECT minute, sent, valid FROM minute_rows WHERE session = ? AND minute >= ? ORDER BY 1"
         for session in self.sessions:
             if session.end > self.end - DAY:
                 first = int((self.end - DAY - session.start) / session.minute)
@@ -179,20 +167,20 @@ class StoredStation:
         """All from one time to another, which are of whole steps, with the blocks by these."""
         line = TimeLine()
         blocks_at: List[Tuple[int, ...]] = [(0, 0, 0, 0, 0, 0)]
-        mix: Dict[float, Dict[str, int]] = {}
+        mix: Dict[float, "Counter[str]"] = {}
         while self._done < len(self.sessions) and self.sessions[self._done].end <= begin:
             self._done += 1
         sessions = list(itertools.takewhile(lambda one: one.begin < end, self.sessions[self._done :]))
         numbers = json.dumps([session.number for session in sessions])
-        busy = self._busy(line, numbers, step)
+        lanes, facts = self._busy(line, numbers, step)
         outages = self._rows_of(OUTAGES, numbers)
-        events = self._rows_of(EVENTS, numbers, json.dumps(busy.facts))
+        events = self._rows_of(EVENTS, numbers, json.dumps(facts))
         for session in sessions:
             if session.recording != self._run:
                 self._lanes.end(self._heard)
             low, high, sent, valid = max(begin, session.begin), min(end, session.end), 0, 0
             last: Optional[float] = None
-            for at, blocks, more, offset, mixes, *held in self._slots(session, begin, end, step, busy.lanes):
+            for at, blocks, more, offset, mixes, *held in self._slots(session, begin, end, step, lanes):
                 blocks_at.append((int((at - begin) // step), *blocks))
                 sent, valid = sent + blocks[0], valid + blocks[1]
                 line.more += more
@@ -200,8 +188,8 @@ class StoredStation:
                     line.clock.append([at + step / 2, offset])
                     last = offset
                 for told in json.loads(f"[{mixes or ''}]"):
-                    add_mix(mix.setdefault(at, {}), told)
-                for lane, least, most in zip(busy.lanes, held[::2], held[1::2]):
+                    mix.setdefault(at, Counter()).update(told)
+                for lane, least, most in zip(lanes, held[::2], held[1::2]):
                     if least is not None:
                         text = self._stored.fact(least).text if least == most else SEVERAL
                         one = max(at, low), min(at + step, high), text
@@ -221,7 +209,7 @@ class StoredStation:
         line.mix = [[at, at + step, found] for at, found in sorted(mix.items())]
         line.lanes = {**self._lanes.taken(end), **line.lanes}
         if sessions:
-            self._hear_last(sessions[-1], end, busy.lanes)
+            self._hear_last(sessions[-1], end, lanes)
         return line
 
     def _rows_of(self, query: str, *given: str) -> Dict[int, List[Tuple[int, int]]]:
@@ -231,8 +219,8 @@ class StoredStation:
             found.setdefault(session, []).append((pair[0], pair[1]))
         return found
 
-    def _busy(self, line: TimeLine, numbers: str, step: int) -> Busy:
-        """The items that change too often to be listed. Their texts at the ends of minutes are looked at, if minutes have them."""
+    def _busy(self, line: TimeLine, numbers: str, step: int) -> Tuple[List[str], List[int]]:
+        """Of items that change too often to be listed the columns of minutes, whose texts are looked at, and the facts."""
         counts: "Counter[str]" = Counter()
         facts: Dict[str, List[int]] = {}
         for fact, count in self._stored.rows(COUNTS_OF_FACTS, numbers) if step >= 3600 else ():
@@ -244,7 +232,7 @@ class StoredStation:
         lanes = [item.lower() for item in items if item in ("PS", "RT")]
         for lane in lanes:
             self._lanes.drop(lane.upper())
-        return Busy(lanes, [fact for item in items for fact in facts[item]])
+        return lanes, [fact for item in items for fact in facts[item]]
 
     def _hear_last(self, session: StoredSession, end: float, lanes: Sequence[str]) -> None:
         """What the last minute says that has groups: not each change is stored. Busy items go on in the next line."""

@@ -1,22 +1,23 @@
 """Pages of years: in one folder an overview, the availability as CSV, and per station a page by days and one per month by hours."""
 
-from __future__ import annotations
-
 import csv
 import datetime
 import io
+import itertools
 import os
 import sys
-from typing import Any, Iterator, List, NamedTuple, Sequence, Tuple
+from typing import Any, List, NamedTuple, Sequence, Tuple
 from urllib.parse import quote
 
 from ..content.charset import printable
+from ..rows.clock import DAY
+from ..rows.extent import replace
 from .html import Station, page_of, told_of
 from .line import MOST_LISTED, TimeLine
 from .overview import tile_of
 from .stored import Stored, StoredStation
 
-HOUR, DAY = 3600, 86400
+HOUR = 3600
 UTC = datetime.timezone.utc
 HEAD = "received, s|noise, s|down, s|unknown, s|received, %|outages|longest, s|sent|valid|valid, %".split("|")
 NAMES = "Jan Feb Mar Apr May Jun Jul Aug Sep Oct Nov Dec".split()
@@ -39,59 +40,29 @@ class Month(NamedTuple):
     valid_percent: Any
 
 
-class LinkTable(NamedTuple):
-    """A table of a page: each cell is a text and the link to a page, or none."""
-
-    caption: str
-    head: Sequence[str]
-    rows: Sequence[Sequence[Tuple[str, str]]]
-
-
-class CalendarMonth(NamedTuple):
-    """A month in UTC, from its begin to the next one's, in seconds since 1970."""
-
-    year: int
-    number: int
-
-    @property
-    def begin(self) -> float:
-        return datetime.datetime(self.year, self.number, 1, tzinfo=UTC).timestamp()
-
-    @property
-    def next(self) -> "CalendarMonth":
-        return CalendarMonth(self.year + self.number // 12, self.number % 12 + 1)
-
-    @property
-    def last(self) -> "CalendarMonth":
-        return CalendarMonth(self.year - (self.number == 1), (self.number - 2) % 12 + 1)
-
-    def __str__(self) -> str:
-        return f"{self.year}-{self.number:02}"
-
-
-def months_of(begin: float, end: float) -> Iterator[CalendarMonth]:
-    """Those of an extent."""
-    first = datetime.datetime.fromtimestamp(begin, UTC)
-    month = CalendarMonth(first.year, first.month)
-    while month.begin < end:
-        yield month
-        month = month.next
-
-
 def file_of(name: str, time: Any) -> str:
     """A page's file: signs that are special in names of files or links are escaped."""
     return f"{quote(name, safe='')}-{time}.html"
 
 
-def month_of(station: StoredStation, month: CalendarMonth, line: TimeLine) -> Month:
-    begin, end = month.begin, month.next.begin
+def begin_of(month: int) -> float:
+    """The begin of a month, of which there are 12 in the year 1, in seconds since 1970."""
+    return datetime.datetime(month // 12, month % 12 + 1, 1, tzinfo=UTC).timestamp()
+
+
+def name_of(month: int) -> str:
+    return f"{month // 12}-{month % 12 + 1:02}"
+
+
+def month_of(station: StoredStation, month: int, line: TimeLine) -> Month:
+    begin, end = begin_of(month), begin_of(month + 1)
     seconds, sums = station.available(line, begin, end), line.sums()
     sent, valid = sums["sent"], sums["valid"]
     times: List[Any] = [round(value, 3) for value in seconds]
     times.append(round(100 * seconds.received / (end - begin), 3))
     times += [len(line.outages), round(max((row[2] for row in line.outages), default=0.0), 3)]
     percent = round(100 * valid / sent, 3) if sent else None
-    return Month._make([printable(station.name), str(month), *times, sent, valid, percent])
+    return Month._make([printable(station.name), name_of(month), *times, sent, valid, percent])
 
 
 class Folder:
@@ -105,60 +76,55 @@ class Folder:
         os.makedirs(path, exist_ok=True)
 
     def add(self, station: StoredStation) -> None:
-        months = list(months_of(station.begin, station.end))
-        for year in sorted({month.year for month in months}):
-            told = self._add_year(station, year, [month for month in months if month.year == year])
+        first = datetime.datetime.fromtimestamp(station.begin, UTC)
+        after = itertools.count(12 * first.year + first.month - 1)
+        months = list(itertools.takewhile(lambda month: begin_of(month) < station.end, after))
+        for year, own in itertools.groupby(months, lambda month: month // 12):
+            told = self._add_year(station, year, [*own])
         if months:
             tile = {key: told[key] for key in ("name", "held", "bad_percent")}
-            page = file_of(station.name, months[-1].year)
+            page = file_of(station.name, year)
             self._tiles.append({**tile, "tile": station.tile(), "page": page})
 
-    def _add_year(self, station: StoredStation, year: int, months: List[CalendarMonth]) -> Station:
+    def _add_year(self, station: StoredStation, year: int, months: List[int]) -> Station:
         """The pages of a year and its months; what the year's page tells."""
         whole, rows, cells = TimeLine(), [], [("", "")] * 12
         links = [("all stations", "index.html"), (str(year), file_of(station.name, year))]
-        known = (month for month in months if station.is_known(month.begin, month.next.begin))
-        pages = {month: file_of(station.name, month) for month in known}
+        known = (month for month in months if station.is_known(begin_of(month), begin_of(month + 1)))
+        pages = {month: file_of(station.name, name_of(month)) for month in known}
         for month in months:
-            line = station.line(month.begin, month.next.begin, HOUR)
+            line = station.line(begin_of(month), begin_of(month + 1), HOUR)
             row, file = month_of(station, month, line), pages.get(month, "")
             line = line.fewer(HOUR)
             if file:
-                beside = [(str(one), pages[one]) for one in (month.last, month.next) if one in pages]
+                beside = [(name_of(one), pages[one]) for one in (month - 1, month + 1) if one in pages]
                 self._tell(file, station, [month], line, links=[*links, *beside])
             self._months.append(row)
-            cells[month.number - 1] = f"{row.received_percent:.2f} %", file
+            cells[month % 12] = f"{row.received_percent:.2f} %", file
             texts = ("" if value is None else str(value) for value in row[2:])
-            rows.append([(str(month), file), *((text, "") for text in texts)])
+            rows.append([(row.month, file), *((text, "") for text in texts)])
             whole.extend(line.fewer(DAY, MOST_LISTED // 12))
         self._years.append([(printable(station.name), links[1][1]), (str(year), ""), *cells])
-        table = LinkTable("Availability by month", ["month", *HEAD], rows)
+        table = {"caption": "Availability by month", "head": ["month", *HEAD], "rows": rows}
         return self._tell(links[1][1], station, months, whole, links=links[:1], table=table)
 
     def _tell(
-        self, file: str, station: StoredStation, months: List[CalendarMonth], line: TimeLine, **more: Any
+        self, file: str, station: StoredStation, months: List[int], line: TimeLine, **more: Any
     ) -> Station:
-        begin, end = months[0].begin, months[-1].next.begin
+        begin, end = begin_of(months[0]), begin_of(months[-1] + 1)
         times = begin, min(end, station.end)
         told = told_of(station.name, line, times, begin, station.held, tile_of([], times[1], None))
-        self._write(file, page_of(self._title, [told], **more))
+        replace(os.path.join(self._path, file), page_of(self._title, [told], **more))
         return told
 
-    def _write(self, name: str, text: str) -> None:
-        """A reader sees the old file or the new one."""
-        path = os.path.join(self._path, name)
-        with open(f"{path}.new", "w", encoding="utf-8", newline="") as file:
-            file.write(text)
-        os.replace(f"{path}.new", path)
-
     def close(self) -> None:
-        """The pages of all stations."""
         rows = io.StringIO()
         csv.writer(rows, lineterminator="\n").writerows([Month._fields, *self._months])
-        self._write("availability.csv", rows.getvalue())
-        table = LinkTable("Received, of all time", ["station", "year", *NAMES], self._years)
+        replace(os.path.join(self._path, "availability.csv"), rows.getvalue())
+        table = {"caption": "Received, of all time", "head": ["station", "year", *NAMES], "rows": self._years}
         links = [("the same as CSV, with outages and blocks", "availability.csv")]
-        self._write("index.html", page_of(self._title, self._tiles, links=links, table=table))
+        page = page_of(self._title, self._tiles, links=links, table=table)
+        replace(os.path.join(self._path, "index.html"), page)
 
 
 def write_years(path: str, folder: str, title: str) -> int:

@@ -1,7 +1,5 @@
 """Which bits are inside blocks of RDS: the reception that a decoder can have (IEC 62106, clauses 2.3 and annex A)."""
 
-from __future__ import annotations
-
 from itertools import accumulate
 from typing import Optional
 
@@ -15,7 +13,6 @@ GENERATOR = 0x5B9  # of degree 10
 # The number of the block by its offset word: A, B, C and C', D. Of other remainders -1.
 NUMBERS = numpy.full(1024, -1)
 NUMBERS[[0x0FC, 0x198, 0x168, 0x350, 0x1B4]] = 0, 1, 2, 2, 3
-
 
 # That of each bit of a block, the first bit first.
 _DOUBLED = accumulate([1] * BLOCK_BITS, lambda rest, _: rest << 1 ^ (GENERATOR if rest >> 9 else 0))
@@ -39,11 +36,9 @@ class BlockCounter:
         self.bits += bits.size
         bits = numpy.concatenate([self._rest, bits])
         self._rest = bits[-self.KEPT :]
-        if bits.size > self.KEPT:
-            self._count(bits)
-
-    def _count(self, bits: NDArray[numpy.uint8]) -> None:
-        """The windows, but for those too near to either end, that are such blocks."""
+        if bits.size <= self.KEPT:
+            return
+        # The windows, but for those too near to either end, that are such blocks.
         windows = sliding_window_view(bits, BLOCK_BITS)
         numbers = NUMBERS[numpy.bitwise_xor.reduce(windows * self._columns, axis=1)]
         before, after = numbers[:-BLOCK_BITS], numbers[BLOCK_BITS:]

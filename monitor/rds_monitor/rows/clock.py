@@ -1,12 +1,9 @@
-"""When a bit was received: bit positions as seconds and as UTC, by the start and the rate of a recording, or by the
-clock time (CT) that its station sends."""
-
-from __future__ import annotations
+"""When a bit was received: positions as seconds and as UTC, by a recording's start and rate, or by the clock time (CT) of its station."""
 
 import argparse
 import datetime
 import re
-from typing import Any, List, NamedTuple, Optional
+from typing import Any, Callable, List, NamedTuple, Optional, TypeVar
 
 import numpy
 
@@ -15,13 +12,11 @@ from .items import Rows, Source
 RATE = 1187.5
 EPOCH_MJD = 40587
 DAY = 86400
-# The longest recording takes two years, and Python has times up to the year 9999.
-LAST_YEAR = 9990
+LAST_YEAR = 9990  # the longest recording takes two years, and Python has times up to the year 9999
 
 
 class Clock(NamedTuple):
-    """The UTC of a recording's first bit, in seconds since 1970, if known, and the bits per second of the sampler's
-    clock."""
+    """The UTC of a recording's first bit, in seconds since 1970, if known, and the bits per second of the sampler's clock."""
 
     start: Optional[float] = None
     rate: float = RATE
@@ -31,7 +26,6 @@ class Clock(NamedTuple):
         return place / self.rate
 
     def texts(self, *places: float, digits: int = 3) -> List[str]:
-        """The same as text."""
         return [f"{place / self.rate:.{digits}f}" for place in places]
 
     def names(self, *prefixes: str) -> List[str]:
@@ -39,7 +33,6 @@ class Clock(NamedTuple):
         return [f"{prefix}_utc" for prefix in prefixes] if self.start is not None else []
 
     def utc(self, *places: float) -> List[str]:
-        """UTC columns."""
         return [] if self.start is None else [utc_text(self.start + place / self.rate) for place in places]
 
 
@@ -50,13 +43,11 @@ def utc_text(seconds: float) -> str:
 
 
 def utc_texts(seconds: Rows) -> List[str]:
-    """The same of many times."""
     stamps = (seconds * 1000 + 0.5).astype("i8").astype("M8[ms]")
     return [f"{stamp}Z" for stamp in numpy.datetime_as_string(stamps).tolist()]
 
 
 def start_of(text: str) -> float:
-    """The value of --start."""
     match = re.fullmatch(r"\d{4}-\d\d-\d\dT\d\d:\d\d:\d\d(\.\d{1,6})?Z", text)
     try:
         whole = datetime.datetime.strptime(text[:19], "%Y-%m-%dT%H:%M:%S") if match else None
@@ -67,19 +58,28 @@ def start_of(text: str) -> float:
     return (whole - datetime.datetime(1970, 1, 1)).total_seconds() + float(match[1] or 0)
 
 
-def rate_of(text: str) -> float:
-    """The value of --rate: a clock that is off by a tenth is none of a sampler."""
-    rate = float(text) if re.fullmatch(r"\d+(\.\d+)?", text) else 0.0
-    if not 1068 < rate < 1307:
-        raise argparse.ArgumentTypeError(f"{text!r} is not in bits per second, 1187.5 within a tenth")
-    return rate
+Value = TypeVar("Value")
 
 
-def number_of(text: str) -> float:
-    """The value of an option that is a number, not below 0."""
-    if not re.fullmatch(r"\d{1,12}(\.\d{1,9})?", text):
-        raise argparse.ArgumentTypeError(f"{text!r} is no number")
-    return float(text)
+def option_type(
+    pattern: str, make: Callable[[str], Value], fault: str, fits: Callable[[Value], bool] = lambda value: True
+) -> Callable[[str], Value]:
+    """Makes the value of an option from a text of this pattern, if it fits. In an error the text comes before the fault."""
+
+    def value_of(text: str) -> Value:
+        value = make(text) if re.fullmatch(pattern, text) else None
+        if value is None or not fits(value):
+            raise argparse.ArgumentTypeError(f"{text!r} {fault}")
+        return value
+
+    return value_of
+
+
+# A clock that is off by a tenth is none of a sampler.
+rate_of = option_type(
+    r"\d+(\.\d+)?", float, "is not in bits per second, 1187.5 within a tenth", lambda rate: 1068 < rate < 1307
+)
+number_of = option_type(r"\d{1,12}(\.\d{1,9})?", float, "is no number")
 
 
 def clock_options(parser: argparse.ArgumentParser) -> None:
@@ -90,14 +90,10 @@ def clock_options(parser: argparse.ArgumentParser) -> None:
     group.add_argument("--rate", type=rate_of, default=RATE, metavar="BITS", help=of_rate)
 
 
-def clock_of_options(arguments: argparse.Namespace) -> Clock:
-    return Clock(arguments.start, arguments.rate)
-
-
-def clock_of(arguments: argparse.Namespace, source: Source) -> Clock:
+def clock_of(arguments: argparse.Namespace, source: Optional[Source] = None) -> Clock:
     """The clock of the options, or by default the start that the input itself says."""
-    clock = clock_of_options(arguments)
-    return clock if clock.start is not None else clock._replace(start=getattr(source, "start", None))
+    start = getattr(source, "start", None) if arguments.start is None else arguments.start
+    return Clock(start, arguments.rate)
 
 
 def milliseconds(places: Any, rate: float) -> List[str]:

@@ -1,6 +1,4 @@
 """Compressed inputs, identified by their first bytes: gzip, xz and zstd."""
-from __future__ import annotations
-
 import importlib
 import lzma
 import zlib
@@ -9,8 +7,7 @@ from typing import Any, Callable, Dict, Optional
 from .items import Fault, Readable
 
 CHUNK = 1 << 16
-# Bytes that say how an input is compressed.
-HEAD = 6
+HEAD = 6  # bytes that say how an input is compressed
 
 
 def zstandard(else_fault: str) -> Any:
@@ -21,16 +18,12 @@ def zstandard(else_fault: str) -> Any:
         raise Fault(else_fault) from None
 
 
-def _zstd() -> Any:
-    fault = "the input is compressed with zstd: install python3-zstandard, or use zstd -dc"
-    return zstandard(fault).ZstdDecompressor().decompressobj()
-
-
+_NO_ZSTD = "the input is compressed with zstd: install python3-zstandard, or use zstd -dc"
 # By the first bytes: the name, and what decompresses one stream.
 _FORMATS: Dict[bytes, tuple[str, Callable[[], Any]]] = {
     b"\x1f\x8b\x08": ("gzip", lambda: zlib.decompressobj(wbits=31)),
     b"\xfd7zXZ\0": ("xz", lzma.LZMADecompressor),
-    b"\x28\xb5\x2f\xfd": ("zstd", _zstd),
+    b"\x28\xb5\x2f\xfd": ("zstd", lambda: zstandard(_NO_ZSTD).ZstdDecompressor().decompressobj()),
 }
 _ERRORS = (zlib.error, lzma.LZMAError)
 
@@ -73,6 +66,5 @@ class Decompressed:
                 raise
             raise Fault(f"the {self._name} data is damaged: {error}") from None
         if self._decoder.eof:
-            # Another stream may follow.
-            self._head, self._decoder = self._decoder.unused_data, None
+            self._head, self._decoder = self._decoder.unused_data, None  # another stream may follow
         return found

@@ -3,10 +3,7 @@
 Both give the same rows at the same time, and raise the same `Fault`. A decoder is made of rules, gaps and the number of bits to
 decode, if that is known. `place` is how many bits were pushed, and `place_after` counts bytes to come too. `push` gives all rows
 that the bits so far complete. `finish` takes the first `bits` of the last bytes, and gives the last rows and the totals. By rules
-with a margin bytes are symbols, one more than bits, and `finish` takes none.
-"""
-
-from __future__ import annotations
+with a margin bytes are symbols, one more than bits, and `finish` takes none."""
 
 import array
 import fcntl
@@ -18,6 +15,7 @@ import subprocess
 import termios
 import time
 from functools import partial
+from pathlib import Path
 from typing import Any, Callable, List, Optional, Sequence, Tuple, Union
 
 from .items import Fault, Rows, Rules, Totals, joined
@@ -99,114 +97,116 @@ class ByProgram(Pushed):
         job = soft_job if self.is_soft else "follow"
         self._program, self._words = program, [job, *_words(rules, gaps, bits)]
         self._process: Optional["subprocess.Popen[bytes]"] = None
-        # What it wrote and was not taken yet.
-        self._text = b""
+        self._text = b""  # what it wrote and was not taken yet
 
     def push(self, data: bytes) -> Rows:
         if not data:
             return parse(b"")[0]
-        process = self._process or self._start()
+        self._start()
         self.bytes += len(data)
-        self._work(process, memoryview(data))
+        self._work(memoryview(data))
         return self._taken()
 
     def finish(self, data: bytes = b"", bits: int = 0) -> Tuple[Rows, Totals]:
-        process = self._process or self._start()
+        self._start()
         try:
-            self._end(process, memoryview(data[: (bits + 7) // 8]))
+            self._end(memoryview(data[: (bits + 7) // 8]))
         except OSError as error:
             raise Fault(f"{self._program}: {error.strerror or error}") from None
         rows, totals = self._taken(), self._totals()
         if totals is None:
-            raise Fault(self._why(process))
-        assert process.stderr
-        process.stderr.close()
+            raise Fault(self._why())
+        self._err.close()
         return rows, totals
 
-    # ---- the process
-
-    def _start(self) -> "subprocess.Popen[bytes]":
+    def _start(self) -> None:
+        """Once."""
+        if self._process:
+            return
         pipe, words = subprocess.PIPE, ["/bin/sh", "-c", SHIELD, self._program, *self._words]
         try:
-            process = subprocess.Popen(
+            self._process = subprocess.Popen(
                 words, stdin=pipe, stdout=pipe, stderr=pipe, start_new_session=True, bufsize=0
             )
         except OSError as error:
             raise Fault(f"{self._program} cannot be started: {error.strerror or error}") from None
-        for stream in (process.stdin, process.stdout, process.stderr):
-            assert stream
+        streams: Any = (self._process.stdin, self._process.stdout, self._process.stderr)
+        self._in, self._out, self._err = streams
+        for stream in streams:
             os.set_blocking(stream.fileno(), False)
-        self._process = process
-        return process
 
-    def _work(self, process: "subprocess.Popen[bytes]", rest: memoryview) -> None:
+    def _work(self, rest: memoryview) -> None:
         """Gives the program these bytes, and takes what it writes, until it waits for more bytes."""
+        assert self._process
         pause, end = FIRST_PAUSE, time.monotonic() + PATIENCE
+        unread, stat = array.array("i", [0]), Path(f"/proc/{self._process.pid}/stat")
         before: Tuple[int, int] = (0, 0)
         while True:
-            rest = rest[self._write(process, rest) :]
-            unread = _unread(process)
-            waits = not rest and not unread and _sleeps(process.pid)
-            if self._read(process) or (len(rest), unread) != before:
-                before = len(rest), unread
+            rest = rest[self._write(rest) :]
+            # How many bytes wait in its input; and whether it waits, which it does only for input and for room in its output.
+            fcntl.ioctl(self._in.fileno(), termios.FIONREAD, unread)
+            waits = not rest and not unread[0] and stat.read_bytes().rpartition(b") ")[2][:1] == b"S"
+            if self._read() or (len(rest), unread[0]) != before:
+                before = len(rest), unread[0]
                 pause, end = FIRST_PAUSE, time.monotonic() + PATIENCE
             elif waits:
-                # It slept before the read found nothing, so it has not more to write.
-                return
+                return  # it slept before the read found nothing, so it has not more to write
             elif time.monotonic() > end:
-                process.kill()
+                self._process.kill()
                 raise Fault(f"{self._program} did nothing for {PATIENCE:g} s")
             else:
                 time.sleep(pause)
                 pause = min(2 * pause, LONGEST_PAUSE)
 
-    def _write(self, process: "subprocess.Popen[bytes]", data: memoryview) -> int:
-        assert process.stdin
+    def _write(self, data: memoryview) -> int:
         # A program that has ended must not end this one.
         blocked = signal.pthread_sigmask(signal.SIG_BLOCK, {signal.SIGPIPE})
         try:
-            return process.stdin.write(data) or 0 if data else 0
+            return int(self._in.write(data) or 0) if data else 0
         except BrokenPipeError:
             signal.sigtimedwait({signal.SIGPIPE}, 0)
-            self._read(process)
-            raise Fault(self._why(process)) from None
+            self._read()
+            raise Fault(self._why()) from None
         finally:
             signal.pthread_sigmask(signal.SIG_SETMASK, blocked)
 
-    def _read(self, process: "subprocess.Popen[bytes]") -> bool:
+    def _read(self) -> bool:
         """Whether it had written something."""
-        assert process.stdout
-        data = process.stdout.read(1 << 18)
+        data = self._out.read(1 << 18)
         if data == b"":
-            raise Fault(self._why(process))
+            raise Fault(self._why())
         self._text += data or b""
         return bool(data)
 
-    def _why(self, process: "subprocess.Popen[bytes]") -> str:
+    def _why(self) -> str:
         """How it ended before its input. A refusal reads as that of librds."""
-        assert process.stderr
-        status, said = _status(process), process.stderr.read() or b""
+        status, said = self._status(), self._err.read() or b""
         if status == 1 and said.startswith(b"refused "):
             return said.decode().splitlines()[0]
         return f"{self._program} {how_ended(status, said)}"
 
-    def _end(self, process: "subprocess.Popen[bytes]", last: memoryview) -> None:
+    def _status(self) -> int:
+        assert self._process
+        try:
+            return self._process.wait(1)
+        except subprocess.TimeoutExpired:
+            self._process.kill()
+            return self._process.wait()
+
+    def _end(self, last: memoryview) -> None:
         """Ends its input with these bytes, and takes the rest of what it writes."""
-        assert process.stdin and process.stdout
-        self._write(process, last)
-        process.stdin.close()
+        self._write(last)
+        self._in.close()
         end = time.monotonic() + PATIENCE
         while time.monotonic() < end:
-            data = process.stdout.read(1 << 18)
+            data = self._out.read(1 << 18)
             if data == b"":
                 break
             self._text += data or b""
             if data is None:
                 time.sleep(FIRST_PAUSE)
-        _status(process)
-        process.stdout.close()
-
-    # ---- its text
+        self._status()
+        self._out.close()
 
     def _taken(self) -> Rows:
         """The rows of the whole lines so far, but those of totals."""
@@ -227,35 +227,12 @@ class ByProgram(Pushed):
 
 
 def _words(rules: Rules, gaps: Gaps, bits: Optional[int]) -> List[str]:
-    """Options of rds."""
     burst, reach, loss, of, margin = rules
     words = ["--soft", f"--margin={margin}"] if margin else [f"--burst={burst}"]
     words += [f"--reach={reach}"]
     words += [f"--share={loss}", f"--of={of}"] if of else [f"--loss={loss}"]
     words += [f"--gaps={','.join(f'{begin}-{end}' for begin, end in gaps)}"] if gaps else []
     return words + ([] if bits is None else [f"--bits={bits}"])
-
-
-def _unread(process: "subprocess.Popen[bytes]") -> int:
-    """How many bytes wait in its input."""
-    assert process.stdin
-    count = array.array("i", [0])
-    fcntl.ioctl(process.stdin.fileno(), termios.FIONREAD, count)
-    return count[0]
-
-
-def _sleeps(pid: int) -> bool:
-    """Whether the process waits, which it does only for input and for room in its output."""
-    with open(f"/proc/{pid}/stat", "rb") as file:
-        return file.read().rpartition(b") ")[2][:1] == b"S"
-
-
-def _status(process: "subprocess.Popen[bytes]") -> int:
-    try:
-        return process.wait(1)
-    except subprocess.TimeoutExpired:
-        process.kill()
-        return process.wait()
 
 
 def how_ended(status: int, said: bytes) -> str:
@@ -273,15 +250,12 @@ def _signal_name(number: int) -> str:
         return f"signal {number}"
 
 
-# ---- which one
-
 StreamDecoder = Union[ByLibrary, ByProgram]
 NewDecoder = Callable[..., StreamDecoder]
 CURE = "install python3-librds or rds, or name librds.so.0 in RDS_LIBRARY or the program in RDS; a listing needs neither"
 
 
 def library() -> Any:
-    """The module librds."""
     return importlib.import_module("librds")
 
 
@@ -331,7 +305,6 @@ def _said(path: str, *words: str) -> bytes:
 
 
 def decode(data: bytes) -> Tuple[Rows, Totals]:
-    """The rows and the totals of packed bits."""
     decoder = decoder_of()[0]()
     rows = decoder.push(data)
     last, totals = decoder.finish()

@@ -1,7 +1,6 @@
 """From where to where an input tells something, and its items on the way."""
 
-from __future__ import annotations
-
+import os
 import sys
 import time
 from itertools import chain, islice
@@ -66,6 +65,13 @@ class Extent:
         """Whether blocks were corrected by soft decisions, as the totals tell too. It counts after the last chunk."""
         totals = self._source.totals
         return self._source.is_soft or bool(totals and totals.soft)
+
+
+def replace(path: str, text: str) -> None:
+    """Writes a file anew: a reader sees the old one or the new one."""
+    with open(f"{path}.new", "w", encoding="utf-8", errors="backslashreplace") as file:
+        file.write(text)
+    os.replace(f"{path}.new", path)
 
 
 def write_table(names: Sequence[str], rows: Iterable[Sequence[Any]]) -> int:

@@ -4,14 +4,12 @@
     D393 ---- E0CD 5041 @2026/03/29 00:30:00.09
 
 A block that is not known is `----`. RDS Spy adds the time after `@`; in place of it redsea may have a time of any form.
-Lines that begin with `<`, and lines `G:`, hold no group.
-"""
-from __future__ import annotations
-
+Lines that begin with `<`, and lines `G:`, hold no group."""
 import datetime
 import re
+from contextlib import suppress
 from itertools import chain
-from typing import Iterator, List, NamedTuple, Optional, Sequence, Tuple
+from typing import Iterator, List, Optional, Sequence, Tuple
 
 import numpy
 
@@ -24,41 +22,30 @@ _TIMES = ("%Y/%m/%d %H:%M:%S.%f", "%Y/%m/%d %H:%M:%S", "%Y-%m-%d %H:%M:%S.%f", "
 CHUNK = 1 << 20
 
 
-class Line(NamedTuple):
-    """A group of a line: its words, of which those not known are -1, and its time since 1970 if it says one."""
-
-    words: Sequence[int]
-    time: Optional[float]
-
-
-def line_of(line: bytes, number: int) -> Optional[Line]:
-    """The group of a line, or None if it holds none."""
+def line_of(line: bytes, number: int) -> Optional[Tuple[List[int], Optional[float]]]:
+    """The group of a line, or None if it holds none: its words, of which those not known are -1, and its time since 1970 if it says one."""
     if re.fullmatch(NO_GROUP, line):
         return None
     match = re.fullmatch(GROUP_LINE, line)
     if not match:
         raise Fault(f"line {number} is no group of four hexadecimal words")
     words = [-1 if word == b"----" else int(word, 16) for word in match.groups()[:4]]
-    return Line(words, None if match[5] is None else _time_of(match[5].decode("ascii", "replace"), number))
+    return words, None if match[5] is None else _time_of(match[5].decode("ascii", "replace"), number)
 
 
 def _time_of(text: str, number: int) -> float:
     for form in _TIMES:
-        try:
+        with suppress(ValueError):
             time = datetime.datetime.strptime(text, form)
             if time.year <= LAST_YEAR:
                 return (time - datetime.datetime(1970, 1, 1)).total_seconds()
-        except ValueError:
-            pass
     raise Fault(f"line {number}: {text!r} is no time such as 2026/03/29 00:30:00.09")
 
 
 class GroupLines:
-    """A source of lines. Their groups are taken to follow each other, unless times say that some are missing between
-    two.
+    """A source of lines. Their groups are taken to follow each other, unless times say that some are missing between two.
 
-    Times are trusted to `SLACK` seconds, since a computer writes them when it comes to it. `start` is the time of the
-    first group.
+    Times are trusted to `SLACK` seconds, since a computer writes them when it comes to it. `start` is the time of the first group.
     """
 
     SLACK = 1.25
@@ -84,17 +71,16 @@ class GroupLines:
                 self._number += 1
                 group = line_of(line, self._number)
                 if group:
-                    self._take(group, found)
+                    self._take(*group, found)
             rows = numpy.array(found, ITEM)
             counted = add_totals(counted, totals_of(rows))
             yield rows
         self.length, self.totals = self._place, counted
 
-    def _take(self, group: Line, found: List[Tuple[int, ...]]) -> None:
-        """Adds the rows of a group."""
-        if group.time is not None:
-            self.start = group.time if self.start is None else self.start
-            place = round((group.time - self.start) * RATE)
+    def _take(self, words: List[int], time: Optional[float], found: List[Tuple[int, ...]]) -> None:
+        if time is not None:
+            self.start = time if self.start is None else self.start
+            place = round((time - self.start) * RATE)
             if place > self._place + self.SLACK * RATE:
                 if self._synchronised:
                     found.append((self._place - 1, *_NO_BLOCKS, LOSS, 0, 0, 0))
@@ -102,7 +88,7 @@ class GroupLines:
         if not self._synchronised:
             found.append((self._place + 25, *_NO_BLOCKS, ACQUIRED, 1, 0, 0))
         self._synchronised = True
-        found.append(_group_row(self._place, group.words))
+        found.append(_group_row(self._place, words))
         self._place += GROUP_BITS
 
 

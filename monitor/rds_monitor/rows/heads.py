@@ -1,7 +1,5 @@
 """What an input is, by its first bytes: a listing, groups in hexadecimal, or bits."""
 
-from __future__ import annotations
-
 import re
 from itertools import islice
 
@@ -18,15 +16,13 @@ NO_GROUP = rb"[ \t\r]*(?:<[^\n]*|[Gg]:[ \t\r]*)?"
 _IN_FOURS = rb"@|----|^\s*(?:\w{4}[ \t]+){3}"
 _WORD_SIGNS = b"0123456789ABCDEFabcdef-"
 
-
 ROWS = (b"acquired,", b"group,", b"lost,", b"total,", HEADER[:11])
 UTF16, UTF8 = (b"\xff\xfe", b"\xfe\xff"), b"\xef\xbb\xbf"
 _TEXT = bytes(range(32, 127)) + b"\t\r\n"
 
 
 def is_known(head: bytes) -> bool:
-    """Whether these first bytes say what an input is, whatever follows them. Text does by a whole line that tells
-    something."""
+    """Whether these first bytes say what an input is, whatever follows them. Text does by a whole line that tells something."""
     if head.startswith((*UTF16, UTF8[:1], b"<", b"G", b"g")):
         return len(head) >= 64 and b"\n" in head
     lines = head.split(b"\n")[:-1]

@@ -1,7 +1,5 @@
 """Names of the files of a watch: an hour of a session, in the form of a listing, compressed or not. They give the times of the rows."""
 
-from __future__ import annotations
-
 import argparse
 import datetime
 import os

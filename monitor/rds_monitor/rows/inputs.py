@@ -1,12 +1,11 @@
 """The options of every command that reads an input, and the source that they name."""
 
-from __future__ import annotations
-
 import argparse
 import os
 import re
 from typing import Optional, Sequence, Tuple
 
+from .clock import option_type
 from .hours import hour_of
 from .items import LONGEST, MARGIN, Fault, Misuse, Reading, Rules, Source
 from .opening import open_source
@@ -23,20 +22,8 @@ def gaps_of(text: str) -> Sequence[Tuple[int, int]]:
     return found
 
 
-def bits_of(text: str) -> int:
-    if not re.fullmatch(r"[0-9]+", text) or int(text) > LONGEST:
-        raise argparse.ArgumentTypeError(f"{text!r} is no number of bits up to 2^36")
-    return int(text)
-
-
-def margin_of(text: str) -> int:
-    if not re.fullmatch(r"[0-9]{1,3}", text) or not 1 <= int(text) <= 127:
-        raise argparse.ArgumentTypeError(f"{text!r} is no margin from 1 to 127")
-    return int(text)
-
-
-def describe(parser: argparse.ArgumentParser, description: str, *examples: str) -> None:
-    parser.description, parser.epilog = description, "\n  ".join(["example:", *examples])
+bits_of = option_type("[0-9]+", int, "is no number of bits up to 2^36", lambda bits: bits <= LONGEST)
+margin_of = option_type("[0-9]{1,3}", int, "is no margin from 1 to 127", lambda margin: 1 <= margin <= 127)
 
 
 def input_options(parser: argparse.ArgumentParser, several: bool = False) -> None:

@@ -1,10 +1,7 @@
 """Decoded rows, and what all sources of them share.
 
 Commands work on numpy arrays of the dtype `ITEM`, a row per acquisition, group or loss, in the order of a listing. A
-`Source` gives them in chunks, so memory does not grow with the length of the input.
-"""
-
-from __future__ import annotations
+`Source` gives them in chunks, so memory does not grow with the length of the input."""
 
 from typing import Any, Iterator, NamedTuple, Optional, Protocol, Sequence, Tuple
 
@@ -21,7 +18,6 @@ BLOCK_BITS, GROUP_BITS = 26, 104
 LONGEST = 2**36
 MARGIN = 32  # of soft decisions, by default
 
-
 BLOCKS = (1, 2, 3, 4)
 _BLOCK = (("burst", "<u4"), ("info", "<u2"), ("kind", "u1"), ("offset", "u1"))
 # The memory layout of rds_item_t, as librds.ITEM: a listing needs no library.
@@ -34,9 +30,7 @@ ITEM = numpy.dtype(
     align=True,
 )
 
-
-# numpy copies rows of many fields slowly, and those of bytes quickly.
-_BYTES = f"V{ITEM.itemsize}"
+_BYTES = f"V{ITEM.itemsize}"  # numpy copies rows of many fields slowly, and those of bytes quickly
 
 
 def chosen(rows: Rows, which: Any) -> Rows:
@@ -46,7 +40,6 @@ def chosen(rows: Rows, which: Any) -> Rows:
 
 
 def joined(parts: Sequence[Rows]) -> Rows:
-    """Rows one after the other."""
     found: Rows = numpy.concatenate([rows.view(_BYTES) for rows in parts]).view(ITEM)
     return found
 
@@ -74,8 +67,7 @@ class Reading(NamedTuple):
     """How an input is read: the rules, gaps and bits of a recording, and whether it is hexadecimal text. A listing may be a part
     of one, without its first rows, its last ones or its totals (`unfinished_ok`), or several, one after the other
     (`sessions`), or have been read by soft decisions (`is_soft`), which its totals tell too. `length` is how many bits its recording has,
-    and may be far past its last row (`trust_length`).
-    """
+    and may be far past its last row (`trust_length`)."""
 
     rules: Rules = Rules()
     gaps: Sequence[Tuple[int, int]] = ()
@@ -140,8 +132,7 @@ class Source(Protocol):
 
     `length` is how many bits the recording has, if that is known; of a recording it is, after the last chunk. `totals`
     are known after the last chunk, but for a listing that has none: it is unfinished, or a part of one. `is_soft` says that soft
-    decisions correct its blocks, whether or not there are totals.
-    """
+    decisions correct its blocks, whether or not there are totals."""
 
     length: Optional[int]
     totals: Optional[Totals]

@@ -1,16 +1,12 @@
 """The reader and the writer of listings, the text of `rds list` and `rds follow`.
 
-The reader takes no row that it would not write again in the same bytes: it compares the type and version of a group
-with its blocks, each row with the one before, and the totals with the rows. Lines may end in CR LF, and UTF-8 may begin
-with its mark. Rows are parsed by numpy over the bytes of many lines at once (parse.py); the order of rows is
-judged here.
-"""
-
-from __future__ import annotations
+The reader takes no row that it would not write again in the same bytes: it compares the type and version of a group with its blocks,
+each row with the one before, and the totals with the rows. Lines may end in CR LF, and UTF-8 may begin with its mark. Rows are parsed by
+numpy over the bytes of many lines at once (parse.py); the order of rows is judged here."""
 
 import re
 from itertools import chain
-from typing import Iterator, List, NoReturn, Optional, Sequence, Tuple
+from typing import Iterator, List, Optional, Sequence, Tuple
 
 import numpy
 
@@ -24,21 +20,18 @@ TOTAL_NAMES = "valid burst1 burst2 burst3 burst4 burst5 lost bits groups complet
 SOFT_NAMES = [f"soft{flips}" for flips in range(1, 7)]
 TOTAL_ROW = re.compile(rb"total,([a-z0-9]+),(0|[1-9][0-9]{0,19}),-,-,-,-,-")
 LINES = 1 << 19
-# No row has a tenth of it.
-LONGEST_LINE = 1 << 12
+LONGEST_LINE = 1 << 12  # no row has a tenth of it
 CUT = "the listing does not end in its totals: it is cut off, or rds has not ended (--unfinished accepts it)"
 
 
 class Listing:
-    """A listing as a source of rows. With `unfinished_ok` it may be a part of one. With `sessions` it may be several,
-    one after the other, such as of a stream that was restarted: `session` counts them, and is that of the chunk that
-    was given last.
+    """A listing as a source of rows. With `unfinished_ok` it may be a part of one. With `sessions` it may be several, one after the
+    other, such as of a stream that was restarted: `session` counts them, and is that of the chunk that was given last.
     """
 
     def __init__(self, stream: Readable, head: bytes, how: Reading = Reading()):
         self.length, self.session, self.is_soft = how.length, 0, how.is_soft
-        # A part tells nothing of what was before its first row.
-        self.is_part = how.unfinished_ok
+        self.is_part = how.unfinished_ok  # a part tells nothing of what was before its first row
         # Of the session before, and of this one once they were read.
         self.totals_before: Optional[Totals] = None
         self.totals: Optional[Totals] = None
@@ -72,18 +65,15 @@ class Listing:
             except Bad as error:
                 bad = error
             if bad:
-                self._refuse(lines, number + bad.row, bad)
+                line = lines.split(b"\n", bad.row + 1)[bad.row]
+                if line == HEADER:
+                    raise Fault(
+                        f"row {number + bad.row}: a second listing begins here, with names of columns"
+                    )
+                text = line[:80].decode("ascii", "backslashreplace")
+                raise Fault(f"row {number + bad.row}: {bad.reason}: {text!r}")
             number += len(rows)
         self._close()
-
-    def _refuse(self, lines: bytes, number: int, bad: Bad) -> NoReturn:
-        line = lines.split(b"\n", bad.row + 1)[bad.row]
-        if line == HEADER:
-            raise Fault(f"row {number}: a second listing begins here, with names of columns")
-        text = line[:80].decode("ascii", "backslashreplace")
-        raise Fault(f"row {number}: {bad.reason}: {text!r}") from None
-
-    # ---- lines
 
     def _lines(self) -> Iterator[bytes]:
         """The text in pieces of whole lines, each ended by a line feed alone."""
@@ -100,12 +90,9 @@ class Listing:
             yield lines.replace(b"\r\n", b"\n") if b"\r" in lines else lines
         rest = rest.rstrip(b"\r")
         if TOTAL_ROW.fullmatch(rest):
-            # Its last field cannot go on, so the line is whole, though it lacks its end.
-            yield rest + b"\n"
+            yield rest + b"\n"  # its last field cannot go on, so the line is whole, though it lacks its end
         elif rest and not self.is_part:
             raise Fault(CUT)
-
-    # ---- what follows what
 
     def _judged(self, lines: bytes, rows: Rows) -> Iterator[Rows]:
         """The rows of some lines up to where one does not fit. Runs of rows with and without totals come in turn."""
@@ -173,8 +160,7 @@ class Listing:
             raise Fault(CUT)
         told, counted = self.totals, self._counted
         if told.soft:
-            # What flips make of a mask is not told by it.
-            counted = counted._replace(bursts=(0,) * 5)
+            counted = counted._replace(bursts=(0,) * 5)  # what flips make of a mask is not told by it
         pairs = list(zip(TOTAL_NAMES, flat(told), flat(counted)))
         pairs.append(("corrected", sum(told.bursts) + sum(told.soft), self._corrected))
         wrong = [pair for pair in pairs if pair[1] < pair[2] or pair[1] > pair[2] and not self.is_part]
@@ -184,8 +170,7 @@ class Listing:
                 f"the total {name!r} is {stated}, but the rows have {found}: rows are missing or too many"
                 + ("" if stated < found else " (--unfinished accepts a part)")
             )
-        # Noise gives rows too, every minute or so; if there are none for a tenth of the time, the length is likely a
-        # wrong one.
+        # Noise gives rows too, every minute or so; if there are none for a tenth of the time, the length is likely a wrong one.
         if self.length is not None and not self._trusted and 0 < self.end < (self.length - 71250) / 1.1:
             raise Fault(
                 f"the recording has {self.length} bits, but the last row is of bit {self.end - 1}, more than a tenth before: "
@@ -249,8 +234,7 @@ def first_misfit(last: Optional[Rows], rows: Rows, part: bool) -> Optional[Bad]:
     """The first row that cannot follow the one before it.
 
     Within a lock the first group begins with the block that acquired, each later one follows on the one before, and the
-    loss is that of the last block. In a part of a listing rows may be missing, but places go on.
-    """
+    loss is that of the last block. In a part of a listing rows may be missing, but places go on."""
     if last is None and not part and len(rows) and rows["what"][0] != ACQUIRED:
         missing = "rows are missing before it (--unfinished accepts a part)"
         return Bad(0, f"a listing begins with an acquisition: {missing}")
@@ -282,8 +266,6 @@ def first_misfit(last: Optional[Rows], rows: Rows, part: bool) -> Optional[Bad]:
     return Bad(at + (last is None), reason)
 
 
-# ---- writing
-
 OFFSET_NAMES = ("", "A", "B", "C", "Cx", "D")
 VERSION_NAMES = ("", "A", "B", "?")
 
@@ -300,7 +282,6 @@ def block_texts(rows: Rows, block: int) -> List[str]:
 
 
 def text_of(rows: Rows) -> bytes:
-    """The lines of rows."""
     lines = []
     fields = (rows[name].tolist() for name in ("what", "place", "number", "version", "conflict"))
     blocks = (block_texts(rows, block) for block in BLOCKS)

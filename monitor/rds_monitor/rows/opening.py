@@ -1,7 +1,5 @@
 """The source of an input, which is told apart by content: a recording, a listing, or groups in hexadecimal."""
 
-from __future__ import annotations
-
 import io
 import os
 import stat
@@ -51,8 +49,7 @@ def _open(path: str) -> Tuple[Readable, Optional[int]]:
     try:
         status = os.fstat(stream.fileno())
     except io.UnsupportedOperation:
-        # Bytes in memory.
-        return stream, None
+        return stream, None  # bytes in memory
     if not stat.S_ISREG(status.st_mode):
         return Pipe(stream), None
     return stream, None if path == "-" else status.st_size

@@ -1,22 +1,14 @@
 """Lines of a listing as rows of the dtype ITEM, by numpy over the bytes of all lines at once.
 
-Each check marks the rows that it finds bad; the first bad row of all is told, with the first reason for it.
-"""
-
-from __future__ import annotations
+Each check marks the rows that it finds bad; the first bad row of all is told, with the first reason for it."""
 
 from typing import Any, List, Optional, Tuple
 
 import numpy
 
-from .items import ACQUIRED, BLOCKS, CORRECTED, GROUP, ITEM, LONGEST, LOSS, LOST, UNKNOWN_TYPE, VALID
-from .items import Rows
+from .items import ACQUIRED, BLOCKS, CORRECTED, GROUP, ITEM, LONGEST, LOSS, LOST, UNKNOWN_TYPE, VALID, Rows
 
-Bools = Rows
-Array = Rows
-
-# In place of an item: a row of a total.
-TOTAL = 4
+TOTAL = 4  # in place of an item: a row of a total
 # Bytes before the lines, the end of a line among them, and after: a window at any field lies within them.
 BEFORE, AFTER = bytes(15) + b"\n", bytes(16)
 # After each field a comma, and after the last one a line feed.
@@ -29,9 +21,6 @@ class Bad(Exception):
     def __init__(self, row: int, reason: str):
         super().__init__(reason)
         self.row, self.reason = row, reason
-
-
-# ---- tables
 
 
 def _number(text: bytes) -> Any:
@@ -59,15 +48,12 @@ TYPE_WORDS = numpy.array([_number(text) for text in TYPE_TEXTS])
 TYPE_MASKS = numpy.array([_number(b"\xff" * len(text)) for text in TYPE_TEXTS])
 
 
-def read_pattern(rows: Rows) -> Array:
+def read_pattern(rows: Rows) -> Rows:
     """Which blocks of each row were read, as four bits, block 1 highest."""
-    pattern: Array = (rows["kind1"] > 0) * numpy.uint8(8)
+    pattern: Rows = (rows["kind1"] > 0) * numpy.uint8(8)
     for block, bit in ((2, 4), (3, 2), (4, 1)):
         pattern |= (rows[f"kind{block}"] > 0) * numpy.uint8(bit)
     return pattern
-
-
-# ---- fields
 
 
 class _Lines:
@@ -75,7 +61,7 @@ class _Lines:
 
     def __init__(self, lines: bytes):
         self.data = numpy.frombuffer(BEFORE + lines + AFTER, "u1")
-        self.faults: List[Tuple[Bools, str]] = []
+        self.faults: List[Tuple[Rows, str]] = []
         at = numpy.flatnonzero((self.data == 44) | (self.data == 10))
         self.count, self.fields = len(at) // 8, 8
         signs = self.data[at[1:]]
@@ -84,43 +70,35 @@ class _Lines:
         self.ends = at[1 : 8 * self.count + 1].reshape(-1, 8)
         self.starts = at[: 8 * self.count].reshape(-1, 8) + 1
 
-    def _cut(self, feeds: Array) -> None:
+    def _cut(self, feeds: Rows) -> None:
         """Keeps the lines before the first one that has no eight fields, by which separators are line feeds."""
         fields = numpy.diff(feeds, prepend=-1)
         self.count = int((fields != 8).argmax())
         self.fields = int(fields[self.count])
 
-    def windows(self, at: Array, size: int) -> Array:
+    def windows(self, at: Rows, size: int) -> Rows:
         """The bytes at these places, a row of `size` bytes for each."""
-        every: Array = numpy.ndarray((len(self.data) - size + 1,), f"V{size}", self.data, strides=(1,))
+        every: Rows = numpy.ndarray((len(self.data) - size + 1,), f"V{size}", self.data, strides=(1,))
         return every[at].view("u1").reshape(-1, size)
 
-    def words(self, at: Array) -> Array:
+    def words(self, at: Rows) -> Rows:
         """The 8 bytes at these places, the first one lowest."""
         return self.windows(at, 8).view("<u8").reshape(at.shape)
 
-    def has(self, at: Array, text: bytes) -> Bools:
-        """Whether this text is at these places."""
-        same: Bools = (self.windows(at, len(text)) == numpy.frombuffer(text, "u1")).all(axis=1)
+    def has(self, at: Rows, text: bytes) -> Rows:
+        same: Rows = (self.windows(at, len(text)) == numpy.frombuffer(text, "u1")).all(axis=1)
         return same
 
-    def check(self, fine: Bools, reason: str, rows: Optional[Array] = None) -> None:
+    def check(self, fine: Rows, reason: str, rows: Optional[Rows] = None) -> None:
         """Notes the rows that are not fine; `rows` says which rows these are, by default all."""
         if not fine.all():
             bad = numpy.zeros(self.count, bool)
             bad[~fine if rows is None else rows[~fine]] = True
             self.faults.append((bad, reason))
 
-    def first_bad(self) -> Optional[Bad]:
-        if not self.faults:
-            return None if self.fields == 8 else Bad(self.count, f"it has {self.fields} fields in place of 8")
-        row = min(int(bad.argmax()) for bad, _ in self.faults)
-        return Bad(row, next(reason for bad, reason in self.faults if bad[row]))
-
 
 def parse(lines: bytes) -> Tuple[Rows, Optional[Bad]]:
-    """The rows of whole lines, each ended by a line feed, up to the first bad one, and that one. A row of a total has
-    nothing but its kind."""
+    """The rows of whole lines, each ended by a line feed, up to the first bad one, and that one. Of a total a row has only its kind."""
     text = _Lines(lines)
     rows = numpy.zeros(text.count, ITEM)
     if text.count:
@@ -128,7 +106,10 @@ def parse(lines: bytes) -> Tuple[Rows, Optional[Bad]]:
         _parse_places(text, rows)
         _parse_groups(text, rows)
         _parse_others(text, rows)
-    bad = text.first_bad()
+    bad = None if text.fields == 8 else Bad(text.count, f"it has {text.fields} fields in place of 8")
+    if text.faults:
+        row = min(int(bad_rows.argmax()) for bad_rows, _ in text.faults)
+        bad = Bad(row, next(reason for bad_rows, reason in text.faults if bad_rows[row]))
     return (rows[: bad.row] if bad else rows), bad
 
 
@@ -144,8 +125,7 @@ POWERS = 10.0 ** numpy.arange(10, -1, -1)
 
 
 def _parse_places(lines: _Lines, rows: Rows) -> None:
-    """Places are decimal numbers of at most 11 digits, without zeros in front. Those of one length are read
-    together."""
+    """Places are decimal numbers of at most 11 digits, without zeros in front. Those of one length are read together."""
     starts, lengths = lines.starts[:, 1], lines.ends[:, 1] - lines.starts[:, 1]
     places, fine = numpy.zeros(lines.count), numpy.zeros(lines.count, bool)
     for size in range(max(1, int(lengths.min())), min(11, int(lengths.max())) + 1):
@@ -177,7 +157,7 @@ NAMES = numpy.array([[_number(text)] for text in (b"A:", b"B:", b"C:", b"D:")], 
 NAME_OF_PRIME = numpy.uint16(_number(b"x:"))
 
 
-def _parse_blocks(lines: _Lines, rows: Rows) -> Bools:
+def _parse_blocks(lines: _Lines, rows: Rows) -> Rows:
     """Sets the blocks of rows: none, lost, B:2540 or C:0000~0008000. Which of them are blocks, a row per number. Most rows have neither
     masks nor lost blocks."""
     starts, lengths = lines.starts[:, 4:].T.copy(), (lines.ends - lines.starts)[:, 4:].T.copy()
@@ -200,7 +180,7 @@ def _parse_blocks(lines: _Lines, rows: Rows) -> Bools:
         known &= masks >= 0
         corrected = masks > 0
         _set(rows, "burst", masks * known)
-    fine: Bools = known
+    fine: Rows = known
     kinds = known * numpy.uint8(VALID) + corrected * numpy.uint8(CORRECTED - VALID)
     if is_short.any():
         low = words & numpy.uint64(0xFFFFFFFF)
@@ -213,12 +193,12 @@ def _parse_blocks(lines: _Lines, rows: Rows) -> Bools:
     return fine
 
 
-def _set(rows: Rows, name: str, columns: Array) -> None:
+def _set(rows: Rows, name: str, columns: Rows) -> None:
     for block, column in zip(BLOCKS, columns):
         rows[f"{name}{block}"] = column
 
 
-def _masks(words: Array) -> Array:
+def _masks(words: Rows) -> Rows:
     """The error masks of texts such as ~0008000, or -1 for one that is none."""
     tilde, zero = _number(b"~"), _number(b"0")
     pairs = HEX[(words - tilde + zero).view("<u2").reshape(-1, 4)].astype("i8")
@@ -228,7 +208,7 @@ def _masks(words: Array) -> Array:
     return numpy.where(fine, masks, -1)
 
 
-def set_types(groups: Rows) -> Array:
+def set_types(groups: Rows) -> Rows:
     """Sets type, version and conflict of groups by their blocks, and gives the index of their text."""
     known2, valid3 = groups["kind2"] >= VALID, groups["kind3"] == VALID
     version2 = (groups["info2"] >> 11 & 1).astype("u1") + 1
@@ -238,7 +218,7 @@ def set_types(groups: Rows) -> Array:
     conflict = valid3 & known2 & (version2 != version3)
     number = numpy.where(known2, groups["info2"] >> 12, UNKNOWN_TYPE).astype("u1")
     groups["number"], groups["version"], groups["conflict"] = number, version, conflict
-    index: Array = numpy.minimum(number, 16).astype("i8") * 8 + version * 2 + conflict
+    index: Rows = numpy.minimum(number, 16).astype("i8") * 8 + version * 2 + conflict
     return index
 
 

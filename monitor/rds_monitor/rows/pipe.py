@@ -1,7 +1,5 @@
 """An input that is no file: nothing that was written waits while it does, and standard error tells of sync."""
 
-from __future__ import annotations
-
 import select
 import sys
 import time
@@ -11,8 +9,7 @@ import numpy
 
 from .blocks import BlockCounter
 
-# Seconds without sync after which that is said.
-PATIENCE = 2.0
+PATIENCE = 2.0  # seconds without sync after which that is said
 
 
 class Pipe:
@@ -23,8 +20,7 @@ class Pipe:
         self._blocks, self._told, self._synced = BlockCounter(), False, False
 
     def read(self, size: int, /) -> bytes:
-        # The reader of the output has all of it before more is waited for.
-        sys.stdout.flush()
+        sys.stdout.flush()  # the reader of the output has all of it before more is waited for
         rest = max(0.0, self._began + PATIENCE - time.monotonic())
         if not (self._told or self._synced or select.select([self._stream], [], [], rest)[0]):
             self._tell()

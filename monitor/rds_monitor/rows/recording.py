@@ -1,7 +1,5 @@
 """A recording of packed bits, or of symbols, as a source of rows."""
 
-from __future__ import annotations
-
 from itertools import chain
 from typing import Iterator, Optional
 
@@ -10,20 +8,14 @@ from .items import LONGEST, Fault, Readable, Reading, Rows, Totals
 from .pipe import Pipe
 
 CHUNK = 1 << 18
-# By `list` all rows come at the end.
-SOFT_JOBS = ("follow", "list")
+SOFT_JOBS = ("follow", "list")  # by `list` all rows come at the end
 
 
 class Recording:
     """Packed bits, decoded chunk by chunk."""
 
     def __init__(
-        self,
-        stream: Readable,
-        head: bytes,
-        how: Reading,
-        size: Optional[int] = None,
-        pipe: Optional[Pipe] = None,
+        self, stream: Readable, head: bytes, how: Reading, size: Optional[int], pipe: Optional[Pipe]
     ):
         self.is_soft = how.rules.margin > 0
         self.length = how.bits
@@ -60,8 +52,7 @@ class Recording:
         left = self._bits
         for data in self._bytes():
             if left is not None and 8 * len(data) >= left:
-                # The program would end with its last bit.
-                whole = max(0, left - 1) // 8
+                whole = max(0, left - 1) // 8  # the program would end with its last bit
                 yield self._push(data[:whole])
                 yield self._finish(data[whole : whole + 1], left - 8 * whole)
                 return

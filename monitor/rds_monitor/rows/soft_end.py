@@ -1,7 +1,5 @@
 """The end of a stream of symbols, which librds does not tell: the group in progress, and the totals."""
 
-from __future__ import annotations
-
 import numpy
 
 from .items import BLOCK_BITS, BLOCKS, CORRECTED, GROUP, GROUP_BITS
@@ -9,8 +7,7 @@ from .items import Rows, Totals, add_totals, chosen, totals_of
 from .listing import SOFT_NAMES, ends_of, groups_in, kinds_of, places_of
 from .parse import read_pattern, set_types
 
-# Erasures that complete a group in progress.
-PADDING = bytes(2 * GROUP_BITS)
+PADDING = bytes(2 * GROUP_BITS)  # erasures that complete a group in progress
 NONE = Totals(0, (0,) * 5, 0, 0, 0, 0, 0, 0, (0,) * len(SOFT_NAMES))
 
 

@@ -1,7 +1,5 @@
 """Frequencies: as texts, and that of a capture's centre, which SDR programs write into files and their names."""
 
-from __future__ import annotations
-
 import json
 import math
 import os

@@ -1,21 +1,20 @@
 """Bits of RDS from MPX or IQ: the command `demod`."""
 
-from __future__ import annotations
-
 import argparse
 import sys
 from functools import partial
-from typing import Any, Dict, List, Tuple
+from typing import Any, Dict, List, Optional, Tuple
 
 import numpy
 
 from ..rows.items import Fault, Misuse
 from .centre import frequency_of
-from .outputs import BitWriter, QualityLine, report_of
+from .outputs import QualityLine, report_of
+from .pack import BitWriter
 from .rates import likely_rate
 from .receiver import RATES, Capture
 from .samples import RAW_FORMS, SampleSource, Signal, open_samples
-from .several import judge_stations, run_stations
+from .several import run_stations
 
 SECONDS_KEPT = 6  # of the signal, to find its rate if there is no RDS
 
@@ -51,31 +50,20 @@ def hertz(text: str) -> float:
         raise argparse.ArgumentTypeError(str(error)) from None
 
 
-NUMBER, FLAG = {"type": int, "metavar": "N"}, {"action": "store_true"}
-FILE = {"default": "-", "metavar": "FILE"}
+NUMBER, FLAG, LIST = {"type": int, "metavar": "N"}, {"action": "store_true"}, {"metavar": "LIST"}
+FILE, RAW = {"default": "-", "metavar": "FILE"}, {"choices": RAW_FORMS}
+OFFSET, CENTRE = {"type": float, "default": 0.0, "metavar": "HZ"}, {"type": hertz, "metavar": "HZ"}
 OPTIONS: Dict[str, Tuple[Dict[str, Any], str]] = {
     "input": ({"nargs": "?", **FILE}, "the signal (default: - for standard input)"),
-    "--raw": (
-        {"choices": RAW_FORMS},
-        "raw samples, low byte first: f32 floating point, s16 integers, u8 around 127.5",
-    ),
+    "--raw": (RAW, "raw samples, low byte first: f32 floating point, s16 integers, u8 around 127.5"),
     "--rate": (NUMBER, "samples per second: of raw samples, or in place of the header's"),
     "--iq": (FLAG, "the samples are IQ, I first"),
-    "--offset": (
-        {"type": float, "default": 0.0, "metavar": "HZ"},
-        "the station's offset from the centre of IQ (0)",
-    ),
+    "--offset": (OFFSET, "the station's offset from the centre of IQ (0)"),
     "--no-equaliser": (FLAG, "IQ: do not equalise multipath"),
     "--stations": (FLAG, "IQ: demodulate several stations"),
-    "--centre": (
-        {"type": hertz, "metavar": "HZ"},
-        "--stations: the frequency of the centre of IQ, such as 98M",
-    ),
-    "--at": (
-        {"metavar": "LIST"},
-        "--stations: their frequencies, such as 98.1M,100.3M (default: those found)",
-    ),
-    "--equalise": ({"metavar": "LIST"}, "--stations: equalise multipath of these (default: of none)"),
+    "--centre": (CENTRE, "--stations: the frequency of the centre of IQ, such as 98M"),
+    "--at": (LIST, "--stations: their frequencies, such as 98.1M,100.3M (default: those found)"),
+    "--equalise": (LIST, "--stations: equalise multipath of these (default: of none)"),
     "--channel": (NUMBER, "the channel with MPX, if the file has several; 1 is the first"),
     "--unpacked": (FLAG, "write one byte per bit, 0 or 1"),
     "--soft": (FLAG, "write symbols in place of bits, a signed byte each"),
@@ -97,7 +85,12 @@ def judge_options(arguments: argparse.Namespace) -> None:
     if arguments.channel is not None and (arguments.raw or arguments.iq):
         raise Misuse("--channel is for MPX in a file with a header")
     if arguments.stations:
-        judge_stations(arguments)
+        if arguments.offset or arguments.no_equaliser:
+            raise Misuse(
+                "--offset and --no-equaliser are for one station, --at and --equalise for --stations"
+            )
+        if arguments.unpacked and arguments.output == "-":
+            raise Misuse("--unpacked needs a folder: name it by --output")
         arguments.iq = True
     elif arguments.at or arguments.equalise or arguments.centre is not None:
         raise Misuse("--at, --equalise and --centre are for --stations")
@@ -107,6 +100,14 @@ def judge_options(arguments: argparse.Namespace) -> None:
         raise Misuse("--soft and --unpacked contradict each other")
     if arguments.every is not None and not arguments.every > 0:
         raise Misuse("--every is a number of seconds above 0")
+
+
+def open_signal(arguments: argparse.Namespace, channel: Optional[int], is_iq: bool) -> SampleSource:
+    raw, rate = arguments.raw, arguments.rate
+    source = open_samples(arguments.input, raw=raw, rate=rate, channel=channel, is_iq=is_iq)
+    if source.rate not in RATES:
+        raise Fault(f"a sample rate of {source.rate} is not {RATES[0]} to {RATES[-1]}")
+    return source
 
 
 def no_rds(source: SampleSource, beginning: Signal, offset: float) -> Fault:
@@ -138,10 +139,7 @@ def receive(source: SampleSource, capture: Capture, writer: BitWriter, teller: Q
 
 def run_demod(arguments: argparse.Namespace) -> int:
     judge_options(arguments)
-    how = {name: getattr(arguments, name) for name in ("raw", "rate", "channel")}
-    source = open_samples(arguments.input, **how, is_iq=arguments.iq)
-    if source.rate not in RATES:
-        raise Fault(f"a sample rate of {source.rate} is not {RATES[0]} to {RATES[-1]}")
+    source = open_signal(arguments, arguments.channel, arguments.iq)
     if arguments.stations:
         return run_stations(source, arguments)
     offsets = [arguments.offset]

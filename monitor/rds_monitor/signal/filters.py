@@ -1,7 +1,5 @@
 """Bands of a signal, each shifted to 0 Hz and filtered, by Fourier transforms of overlapping blocks."""
 
-from __future__ import annotations
-
 import math
 from fractions import Fraction
 from typing import Callable, Iterator, List, Optional, Sequence, Union
@@ -11,10 +9,8 @@ import numpy
 from .samples import Complexes, Reals, Signal
 from .transforms import transforms
 
+Gain = Callable[[Reals], Reals]  # of a filter by frequency
 OVERLAPS = 32  # of which a block has the length
-
-# Told the spectrum of each block.
-Watcher = Callable[[Signal], None]
 
 
 def at_least(number: Union[float, Fraction]) -> int:
@@ -36,25 +32,16 @@ def fast_size(number: Union[float, Fraction]) -> int:
 
 
 class Passband:
-    """The part of a signal within `reach` Hz of `centre`, at `rate_out`, the least rate above `least_rate` that a
-    block allows.
+    """The part of a signal within `reach` Hz of `centre`, at `rate_out`, the lowest rate above `least` that a block allows.
 
     Of a block's Fourier transform this part is filtered; transformed back, it is at 0 Hz and has fewer samples. A real
-    signal keeps its amplitude: cos(2 pi centre t) becomes 1.
-    """
+    signal keeps its amplitude: cos(2 pi centre t) becomes 1."""
 
     def __init__(
-        self,
-        rate: Fraction,
-        centre: float,
-        reach: float,
-        response: Callable[[Reals], Reals],
-        least_rate: float,
-        block: int,
-        is_real: bool,
+        self, rate: Fraction, centre: float, reach: float, gain: Gain, least: float, block: int, is_real: bool
     ):
         self.rate, self.block, self.is_real = rate, block, is_real
-        self.kept = min(block, fast_size(Fraction(least_rate) * block / rate))
+        self.kept = min(block, fast_size(Fraction(least) * block / rate))
         self.rate_out = rate * self.kept / block
         self.hz_per_bin = float(rate) / block
         middle = round(centre / self.hz_per_bin)
@@ -63,8 +50,8 @@ class Passband:
         beside = numpy.arange(-self._reached, self._reached + 1) * self.hz_per_bin
         # A station may be off by a part of a bin's width, but not the carrier of RDS.
         self.centre = Fraction(centre) if is_real else middle * rate / block
-        gain = self.kept / block * (2 if is_real else 1)
-        passed = response(beside + middle * self.hz_per_bin - float(self.centre)) * gain
+        passed = gain(beside + middle * self.hz_per_bin - float(self.centre))
+        passed *= self.kept / block * (2 if is_real else 1)
         self._response = passed.astype("f8" if is_real else "f4")
         turns = float(self.centre / rate - Fraction(middle, block)) * block / self.kept
         self._turn = numpy.exp(-2j * math.pi * turns * numpy.arange(self.kept)) if is_real else None
@@ -87,8 +74,7 @@ class Bands:
     """Passbands of one signal, by one Fourier transform per block for all of them. They have the same rates and block,
     and each row is a signal. Real signals are in double precision, complex ones in single.
 
-    Blocks overlap, since the filter reads both ends of a block as neighbours; both are left out.
-    """
+    Blocks overlap, since the filter reads both ends of a block as neighbours; both are left out."""
 
     def __init__(self, bands: Sequence[Passband], rows: int = 1):
         self.bands, self._rows = list(bands), rows
@@ -99,7 +85,7 @@ class Bands:
         self._kind, self._kind_out = ("f8", "c16") if one.is_real else ("c8", "c8")
         self._parts: List[Signal] = [numpy.zeros((rows, self.overlap // 2), self._kind)]
         self._size = self.overlap // 2  # of all parts
-        self.watch: Optional[Watcher] = None
+        self.watch: Optional[Callable[[Signal], None]] = None  # is told the spectrum of each block
 
     def push(self, samples: Signal) -> List[Complexes]:
         """The signals of the bands, each with the rows of these samples."""
@@ -119,7 +105,11 @@ class Bands:
         self._parts, self._size = [whole[:, at:]], self._size - at
 
     def _of_block(self, samples: Signal) -> Signal:
-        transformed = numpy.fft.rfft(samples) if self._is_real else self._circular(transforms().fft(samples))
+        transformed = (numpy.fft.rfft if self._is_real else transforms().fft)(samples)
+        if not self._is_real:
+            # A band may go on from the last bin to the first one.
+            both = [transformed, transformed[:, : self.kept]]
+            transformed = numpy.concatenate(both, axis=1, dtype="c8", casting="same_kind")
         if self.watch:
             self.watch(transformed)
         spectra = numpy.zeros((len(self.bands), self._rows, self.kept), self._kind_out)
@@ -131,12 +121,6 @@ class Bands:
         for band, signal in zip(self.bands, signals):
             band.turn(signal, self._place, inner)
         return signals
-
-    def _circular(self, transformed: Signal) -> Signal:
-        """A band may go on from the last bin to the first one."""
-        return numpy.concatenate(
-            [transformed, transformed[:, : self.kept]], axis=1, dtype="c8", casting="same_kind"
-        )
 
     def finish(self) -> List[Complexes]:
         """The signals up to the last sample."""

@@ -1,7 +1,5 @@
 """MPX from IQ: the FM station's channel, an equaliser against multipath, and the discriminator."""
 
-from __future__ import annotations
-
 from fractions import Fraction
 from typing import Optional, Sequence, Tuple
 

@@ -1,14 +1,12 @@
 """Which form the bits or samples of a file are in: the command `form`."""
 
-from __future__ import annotations
-
 import argparse
 import io
 import os
 import re
 import shlex
 from contextlib import suppress
-from typing import Iterator, List, NamedTuple, Tuple
+from typing import Iterator, List, Tuple
 
 import numpy
 
@@ -17,7 +15,7 @@ from ..rows.heads import is_listing
 from ..rows.items import Fault
 from .pack import NAMES, SYMBOLS, Conversion, bits_of, packed_of
 from .rates import likely_rate, locked
-from .samples import Layout, Signal, StoredSamples, open_samples, wav_layout
+from .samples import Layout, Signal, StoredSamples, beginning_of, open_samples, wav_layout
 from .symbols import Bits
 
 PARTS, PART = 25, 10000  # bytes of the file that are tried
@@ -36,21 +34,13 @@ TRIED = ((), ("lsb_first",), ("inverted",), ("differential",), ("lsb_first", "di
 RAW_SIGNALS = ("u8 --iq", "s16", "f32", "s16 --iq", "f32 --iq", "u8")
 
 
-class Found(NamedTuple):
-    """A form: how many complete groups it gives, its name, and the command that makes packed bits of the file."""
-
-    groups: int
-    name: str
-    command: str
+# A form: how many complete groups it gives, its name, and the command that makes packed bits of the file.
+Found = Tuple[int, str, str]
 
 
 def complete(parts: Iterator[Bits]) -> int:
-    """The complete groups of bits."""
     data = b"".join(packed for packed, _ in packed_of(parts))
     return decode(data)[1].complete
-
-
-# ---- bits
 
 
 def parts_of(path: str, start: int) -> bytes:
@@ -68,7 +58,6 @@ def parts_of(path: str, start: int) -> bytes:
 
 
 def as_bits(path: str, data: bytes, forms: Tuple[str, ...]) -> List[Found]:
-    """The forms of bits that give groups."""
     found = []
     for form in forms:
         for changes in TRIED:
@@ -83,7 +72,7 @@ def as_bits(path: str, data: bytes, forms: Tuple[str, ...]) -> List[Found]:
             if groups:
                 name, options = ("".join(CHANGES[change][part] for change in changes) for part in (0, 1))
                 command = f"rds-monitor pack --from {form}{options}" if form != "packed" or options else "cat"
-                found.append(Found(groups, NAMES[form] + name, f"{command} {shlex.quote(path)}"))
+                found.append((groups, NAMES[form] + name, f"{command} {shlex.quote(path)}"))
     return found
 
 
@@ -98,10 +87,7 @@ def as_lines(path: str, data: bytes) -> List[Found]:
         return []
     keep = "tr -d '\\r' | grep -E '^([[:blank:]]*[[:xdigit:]]){16}[[:blank:]]*$' | rds encode"
     command = f"sed 's/@.*//' {shlex.quote(path)} | {keep}"
-    return [Found(len(lines), "lines of hexadecimal words", command)]
-
-
-# ---- signals
+    return [(len(lines), "lines of hexadecimal words", command)]
 
 
 def signal_of(path: str, raw: str, is_iq: bool) -> Signal:
@@ -112,12 +98,12 @@ def signal_of(path: str, raw: str, is_iq: bool) -> Signal:
     layout = Layout(1, 2 if is_iq else 1, raw)
     whole = data[: len(data) // layout.frame * layout.frame]
     source = StoredSamples(io.BytesIO(whole), layout, (0, 1) if is_iq else (0,))
-    return first_of(source.blocks(), SIGNAL_BYTES)
+    return numpy.concatenate([numpy.zeros(0), *source.blocks()])
 
 
 def found_signal(bits: Bits, samples: Signal, name: str, options: str, path: str) -> Found:
     kind = "IQ" if numpy.iscomplexobj(samples) else "MPX"
-    return Found(complete(iter([bits])), f"{kind}, {name}", f"rds-monitor demod{options} {shlex.quote(path)}")
+    return complete(iter([bits])), f"{kind}, {name}", f"rds-monitor demod{options} {shlex.quote(path)}"
 
 
 def as_raw_signal(path: str) -> List[Found]:
@@ -135,38 +121,23 @@ def as_raw_signal(path: str) -> List[Found]:
 
 def as_file_signal(path: str) -> List[Found]:
     """MPX or IQ in a WAV or FLAC file: one of its channels, or two as I and Q."""
-    count = channels_of(path)
+    with open(path, "rb") as file:
+        if file.read(4) == b"fLaC":
+            file.seek(20)
+            count = (file.read(1)[0] >> 1 & 7) + 1  # STREAMINFO has the channels less one in three bits
+        else:
+            file.seek(0)
+            count = wav_layout(file).channels
     found = []
     for channel in [*range(1, count + 1), *([None] if count == 2 else [])]:
         source = open_samples(path, raw=None, rate=None, channel=channel, is_iq=channel is None)
-        samples = first_of(source.blocks(), 10 * source.rate)
+        samples = numpy.concatenate([numpy.zeros(0), *beginning_of(source.blocks(), 10 * source.rate)])
         share, bits = locked(samples, source.rate)
         if share > 0.3:
             which = " --iq" if channel is None else f" --channel {channel}" if count > 1 else ""
             found.append(found_signal(bits, samples, f"{source.rate} samples a second", which, path))
     return found
 
-
-def channels_of(path: str) -> int:
-    with open(path, "rb") as file:
-        if file.read(4) == b"fLaC":
-            file.seek(20)
-            # STREAMINFO has the channels less one in three bits.
-            return (file.read(1)[0] >> 1 & 7) + 1
-        file.seek(0)
-        return wav_layout(file).channels
-
-
-def first_of(blocks: Iterator[Signal], wanted: int) -> Signal:
-    parts = [numpy.zeros(0)]
-    for samples in blocks:
-        parts.append(samples)
-        if sum(map(len, parts)) >= wanted:
-            break
-    return numpy.concatenate(parts)
-
-
-# ---- the command
 
 DESCRIPTION = """\
 Identifies the format of a file, and prints the command that converts it to packed bits, as rds reads them.
@@ -179,8 +150,7 @@ one. MPX and IQ in raw samples are tried at the usual rates. The exit status is 
 
 
 def options_form(parser: argparse.ArgumentParser) -> None:
-    parser.description = DESCRIPTION
-    parser.epilog = "example:\n  rds-monitor form unknown.dat"
+    parser.description, parser.epilog = DESCRIPTION, "example:\n  rds-monitor form unknown.dat"
     parser.add_argument("input", metavar="FILE")
 
 
@@ -193,7 +163,7 @@ def forms_of(path: str, head: bytes) -> List[Found]:
         return as_file_signal(path) if rate >= SIGNAL_RATE else as_bits(path, parts_of(path, start), ("wav",))
     data = parts_of(path, 0)
     found = as_bits(path, data, tuple(name for name in NAMES if name != "wav")) + as_lines(path, data)
-    return found if any(entry.groups >= LEAST for entry in found) else found + as_raw_signal(path)
+    return found if any(groups >= LEAST for groups, _, _ in found) else found + as_raw_signal(path)
 
 
 def claims_listing(head: bytes) -> bool:
@@ -217,13 +187,12 @@ def run_form(arguments: argparse.Namespace) -> int:
     if claims_listing(head):
         print(f"a listing of rds list or rds follow, not a recording: rds-monitor info {shlex.quote(path)}")
         return 0
-    # Without a decoder no form gives a group.
-    decoder_of()
+    decoder_of()  # without a decoder no form gives a group
     found = sorted(forms_of(path, head), reverse=True)
-    if not found or found[0].groups < LEAST:
+    if not found or found[0][0] < LEAST:
         why = "nothing was received, or it is in another format"
         raise Fault(f"no known format gives two complete groups of {path!r}: {why}")
-    width = max(len(entry.name) for entry in found)
-    rows = (f"{entry.groups:6}  {entry.name:{width}}  {entry.command}" for entry in found)
+    width = max(len(name) for _, name, _ in found)
+    rows = (f"{groups:6}  {name:{width}}  {command}" for groups, name, command in found)
     print("complete groups, form, command", *rows, sep="\n")
     return 0

@@ -1,7 +1,5 @@
 """Which stations are in a capture: where its spectrum has a hump, and RDS is received."""
 
-from __future__ import annotations
-
 from typing import List, NamedTuple, Sequence
 
 import numpy

@@ -1,9 +1,7 @@
 """Where carrier or bit clock jump: samples were dropped there, or the transmitter's pilot jumped."""
 
-from __future__ import annotations
-
 import math
-from typing import List, NamedTuple
+from typing import List, Tuple
 
 import numpy
 from numpy.lib.stride_tricks import sliding_window_view
@@ -11,15 +9,9 @@ from numpy.lib.stride_tricks import sliding_window_view
 from .samples import Complexes, Reals, Signal
 from .symbols import CHIP_RATE, TINY, powers
 
-
-class Sides(NamedTuple):
-    """The mean phasors of the segments before and after each boundary, and the evidence that their phases differ.
-    How far the phasors had turned at each segment was undone."""
-
-    before: Complexes
-    after: Complexes
-    evidence: Reals
-    turned: Reals
+# The mean phasors of the segments before and after each boundary, the evidence that their phases differ, and how far the phasors had
+# turned at each segment, which was undone.
+Sides = Tuple[Complexes, Complexes, Reals, Reals]
 
 
 def means(streams: Signal, count: int) -> Signal:
@@ -35,8 +27,7 @@ class Jumps:
 
     Two streams of phasors turn slowly: the signal's square, whose phase is twice that of the carrier, and the line at
     the bit rate of the power of two samples' difference a chip apart, whose phase is that of the clock. Both are summed
-    over short segments, and the means on the two sides of each boundary are compared.
-    """
+    over short segments, and the means on the two sides of each boundary are compared."""
 
     CHIPS = 8  # of a segment: 3.4 ms
     REACH = 24  # segments on each side that are compared
@@ -62,7 +53,13 @@ class Jumps:
     def push(self, signal: Complexes) -> List[Complexes]:
         """The signal, some 0.5 s late, in parts: between each two is a jump."""
         self._signal = numpy.concatenate([self._signal, signal], axis=1)
-        self._add_lines()
+        # The lines of whole segments, 1 if the phasors of all samples agree.
+        known = self._boundary - self._needed + self._lines.shape[1]
+        more = (self._first + self._signal.shape[1]) // self._length - known
+        phasors = self._phasors(known * self._length, (known + more) * self._length)
+        segments = phasors.reshape(2, more, self._length)
+        sums = segments.sum(axis=2) / numpy.maximum(abs(segments).sum(axis=2), TINY)
+        self._lines = numpy.concatenate([self._lines, sums], axis=1)
         count = max(0, self._lines.shape[1] - 2 * self._needed + 1)
         places = self._places(count) if count else []
         self._boundary += count
@@ -94,15 +91,6 @@ class Jumps:
         signal = signal[chip:]
         turns = numpy.arange(first, last) / (2 * self._spacing) % 1
         return numpy.stack([signal * signal, pairs * numpy.exp(-2j * math.pi * turns)])
-
-    def _add_lines(self) -> None:
-        """Those of whole segments, 1 if the phasors of all samples agree."""
-        known = self._boundary - self._needed + self._lines.shape[1]
-        count = (self._first + self._signal.shape[1]) // self._length - known
-        first = known * self._length
-        segments = self._phasors(first, first + count * self._length).reshape(2, count, self._length)
-        sums = segments.sum(axis=2) / numpy.maximum(abs(segments).sum(axis=2), TINY)
-        self._lines = numpy.concatenate([self._lines, sums], axis=1)
 
     def _turned(self) -> Reals:
         """How far the phasors had turned at each segment: by the steps of neighbours, then by those of longer sums."""
@@ -139,25 +127,26 @@ class Jumps:
         weight = reach * amplitudes / (unsure * numpy.maximum(variance, self.VARIANCE))
         evidence = (weight * (amplitudes - abs(before + after))).sum(axis=0)
         evidence[numpy.minimum(abs(before[0]), abs(after[0])) < self.COHERENT] = 0
-        return Sides(before, after, evidence, turned)
+        return before, after, evidence, turned
 
     def _places(self, count: int) -> List[int]:
         """The jumps at the next `count` boundaries: those with enough evidence, and the most around."""
         sides = self._sides()
-        first = self._needed - self.WIDE
-        around = sides.evidence[first - self.REACH : first + count + self.REACH]
+        first, evidence = self._needed - self.WIDE, sides[2]
+        around = evidence[first - self.REACH : first + count + self.REACH]
         highest = sliding_window_view(around, 2 * self.REACH + 1).max(axis=1)
-        own = sides.evidence[first : first + count]
+        own = evidence[first : first + count]
         found = numpy.flatnonzero((own == highest) & (own > self.EVIDENCE))
         return [self._located(int(at), sides) for at in found]
 
     def _located(self, at: int, sides: Sides) -> int:
         """The place of a jump near a boundary, to the sample, by the phases of the segments farther away."""
+        before, after, _, turns = sides
         boundary, index = self._boundary + at, self._needed - self.WIDE + at
         first, last = max(0, boundary - 2) * self._length, (boundary + 2) * self._length
         segments = numpy.arange(first, last) / self._length - boundary + self._needed + at - 0.5
-        turned = [numpy.interp(segments, numpy.arange(own.size), own) for own in sides.turned]
-        apart = sides.before[:, index - 2, None] - sides.after[:, index + 2, None]
+        turned = [numpy.interp(segments, numpy.arange(own.size), own) for own in turns]
+        apart = before[:, index - 2, None] - after[:, index + 2, None]
         back = numpy.exp(-1j * numpy.array(turned))
         gain = self._phasors(first, last) * back * apart.conj() / self.VARIANCE
         return first + int(numpy.cumsum(numpy.append(0, gain.real.sum(axis=0))).argmax())

@@ -1,44 +1,11 @@
-"""What `demod` writes: bits or symbols, and how well they were received."""
-
-from __future__ import annotations
+"""How `demod` reports how well bits or symbols were received."""
 
 import argparse
 import json
 import time
 from typing import Any, Callable, Dict, TextIO
 
-import numpy
-
-from .pack import BinaryOutput
 from .receiver import Receiver
-from .symbols import Bits
-
-
-class Packer:
-    """Makes bytes of bits, eight to a byte: those that do not fill one wait. Without `packs` each has a byte already."""
-
-    def __init__(self, packs: bool):
-        self._packs = packs
-        self._rest: Bits = numpy.zeros(0, "u1")
-
-    def push(self, bits: Bits, last: bool = False) -> bytes:
-        if self._packs:
-            bits = numpy.concatenate([self._rest, bits])
-            whole = bits.size if last else bits.size // 8 * 8
-            self._rest, bits = bits[whole:], numpy.packbits(bits[:whole])
-        return bits.tobytes()
-
-
-class BitWriter:
-    """Writes bits, packed or a byte each, or symbols."""
-
-    def __init__(self, path: str, packs: bool):
-        self._output, self._packer = BinaryOutput(path), Packer(packs)
-        self.written = 0
-
-    def push(self, bits: Bits, last: bool = False) -> None:
-        self.written += bits.size
-        self._output.write(self._packer.push(bits, last))
 
 
 class QualityLine:

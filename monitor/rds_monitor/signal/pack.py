@@ -1,7 +1,5 @@
 """Packed bits, most significant bit first, from bits and samples in other forms: the command `pack`."""
 
-from __future__ import annotations
-
 import argparse
 import sys
 from functools import partial
@@ -13,23 +11,10 @@ from ..rows.items import Fault, Misuse
 from .samples import FORMS, numbers, wav_layout
 from .symbols import Bits, DifferentialDecoder
 
+Reader = Callable[[BinaryIO], Iterator[Bits]]
 CHUNK = 1 << 20
 WHOLE = 8  # a multiple of every sample's bytes
 
-# What each form is, as help and the command form name it.
-NAMES = {
-    "packed": "packed bits",
-    "bytes": "unpacked bits, bytes 0 and 1",
-    "bytes255": "unpacked bits, bytes 0 and 255",
-    "text": "a text of 0 and 1",
-    "hex": "hexadecimal digits",
-    "s8": "signed bytes, one sample per bit",
-    "s16": "16-bit samples, one per bit",
-    "f32": "soft bits, 32-bit floating point",
-    "wav": "a WAV file of one sample per bit",
-    "soft": "signed bytes, one per symbol, as rds --soft reads them",
-    "soft-f32": "32-bit floating point, one per symbol",
-}
 SYMBOLS = {"soft": "s8", "soft-f32": "f32"}  # and their samples
 BLANKS = b" \t\r\n\v\f"
 
@@ -54,9 +39,6 @@ def _chunks(stream: BinaryIO) -> Iterator[bytes]:
         yield data
 
 
-# ---- bits of each form
-
-
 def _checked(stream: BinaryIO, allowed: bytes, fault: str) -> Iterator[bytes]:
     """Chunks of bytes that are all allowed; the fault names the place and the value of the first other one."""
     read = 0
@@ -69,8 +51,7 @@ def _checked(stream: BinaryIO, allowed: bytes, fault: str) -> Iterator[bytes]:
 
 
 def _packed(stream: BinaryIO) -> Iterator[Bits]:
-    for data in _chunks(stream):
-        yield numpy.unpackbits(numpy.frombuffer(data, "u1"))
+    return (numpy.unpackbits(numpy.frombuffer(data, "u1")) for data in _chunks(stream))
 
 
 def _hex(stream: BinaryIO) -> Iterator[Bits]:
@@ -135,16 +116,22 @@ def _up_to(stream: BinaryIO, length: "int | None") -> Iterator[bytes]:
         yield data
 
 
-READERS: Dict[str, Callable[[BinaryIO], Iterator[Bits]]] = {
-    "packed": _packed,
-    "hex": _hex,
-    "text": _text,
-    "wav": _wav,
-    "bytes": partial(_bytes, one=1),
-    "bytes255": partial(_bytes, one=255),
-    **{form: partial(_stored, form=form) for form in ("s8", "s16", "f32")},
-    **{name: partial(_symbols, form=form) for name, form in SYMBOLS.items()},
+# What each form is, as help and the command form name it, and its reader.
+FORMS_OF_BITS: Dict[str, Tuple[str, Reader]] = {
+    "packed": ("packed bits", _packed),
+    "bytes": ("unpacked bits, bytes 0 and 1", partial(_bytes, one=1)),
+    "bytes255": ("unpacked bits, bytes 0 and 255", partial(_bytes, one=255)),
+    "text": ("a text of 0 and 1", _text),
+    "hex": ("hexadecimal digits", _hex),
+    "s8": ("signed bytes, one sample per bit", partial(_stored, form="s8")),
+    "s16": ("16-bit samples, one per bit", partial(_stored, form="s16")),
+    "f32": ("soft bits, 32-bit floating point", partial(_stored, form="f32")),
+    "wav": ("a WAV file of one sample per bit", _wav),
+    "soft": ("signed bytes, one per symbol, as rds --soft reads them", partial(_symbols, form="s8")),
+    "soft-f32": ("32-bit floating point, one per symbol", partial(_symbols, form="f32")),
 }
+NAMES = {form: name for form, (name, _) in FORMS_OF_BITS.items()}
+READERS = {form: reader for form, (_, reader) in FORMS_OF_BITS.items()}
 
 
 def bits_of(stream: BinaryIO, form: str, change: Conversion = Conversion()) -> Iterator[Bits]:
@@ -172,8 +159,6 @@ def packed_of(parts: Iterator[Bits]) -> Iterator[Tuple[bytes, int]]:
     yield numpy.packbits(rest).tobytes(), rest.size
 
 
-# ---- the command
-
 DESCRIPTION = """\
 Converts bits and samples to packed bits, MSB first, as rds reads them.
 
@@ -186,13 +171,11 @@ def options_pack(parser: argparse.ArgumentParser) -> None:
         "examples:\n  rds-monitor pack --from bytes bits.dat > recording.bin\n"
         "  rds-monitor pack --from f32 --invert soft.f32 | rds list"
     )
-    file, flag = {"default": "-", "metavar": "FILE"}, {"action": "store_true"}
+    file: Dict[str, Any] = {"default": "-", "metavar": "FILE"}
+    flag = {"action": "store_true"}
     forms = {"dest": "form", "required": True, "choices": sorted(NAMES), "metavar": "FORM"}
     options: Dict[str, Tuple[Dict[str, Any], str]] = {
-        "input": (
-            {"nargs": "?", "default": "-", "metavar": "INPUT"},
-            "the bits (default: - for standard input)",
-        ),
+        "input": ({**file, "nargs": "?", "metavar": "INPUT"}, "the bits (default: - for standard input)"),
         "--from": (forms, "; ".join(f"{name}: {text}" for name, text in NAMES.items())),
         "--lsb-first": (flag, "the bytes are LSB first (packed and hex)"),
         "--invert": (flag, "invert the bits"),
@@ -203,14 +186,31 @@ def options_pack(parser: argparse.ArgumentParser) -> None:
         parser.add_argument(name, help=text, **how)
 
 
-class BinaryOutput:
-    """A file, or standard output. It is begun with its first byte, and has all bytes at once."""
+class Packer:
+    """Makes bytes of bits, eight to a byte: those that do not fill one wait. Without `packs` each has a byte already."""
 
-    def __init__(self, path: str):
-        self._path = path
+    def __init__(self, packs: bool):
+        self._packs = packs
+        self._rest: Bits = numpy.zeros(0, "u1")
+
+    def push(self, bits: Bits, last: bool = False) -> bytes:
+        if self._packs:
+            bits = numpy.concatenate([self._rest, bits])
+            whole = bits.size if last else bits.size // 8 * 8
+            self._rest, bits = bits[whole:], numpy.packbits(bits[:whole])
+        return bits.tobytes()
+
+
+class BitWriter:
+    """Writes bits, packed or a byte each, or symbols: to a file that begins with its first byte, or standard output, at once."""
+
+    def __init__(self, path: str, packs: bool):
+        self._path, self._packer, self.written = path, Packer(packs), 0
         self._stream: Optional[BinaryIO] = sys.stdout.buffer if path == "-" else None
 
-    def write(self, data: bytes) -> None:
+    def push(self, bits: Bits, last: bool = False) -> None:
+        self.written += bits.size
+        data = self._packer.push(bits, last)
         if data:
             self._stream = self._stream or open(self._path, "wb")
             self._stream.write(data)
@@ -224,10 +224,11 @@ def run_pack(arguments: argparse.Namespace) -> int:
         raise Misuse("--differential is for bits: those of symbols are decoded")
     change = Conversion(arguments.lsb_first, arguments.invert, arguments.differential)
     stream = sys.stdin.buffer if arguments.input == "-" else open(arguments.input, "rb")
-    output, bits = BinaryOutput(arguments.output), 0
-    for data, count in packed_of(bits_of(stream, arguments.form, change)):
-        output.write(data)
-        bits += count
+    writer = BitWriter(arguments.output, True)
+    for part in bits_of(stream, arguments.form, change):
+        writer.push(part)
+    writer.push(numpy.zeros(0, "u1"), last=True)
+    bits = writer.written
     if not bits:
         raise Fault("there is no bit in the input")
     if bits % 8:

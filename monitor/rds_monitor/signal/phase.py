@@ -1,7 +1,5 @@
 """The phase of a slowly turning phasor, estimated from noisy values at equal steps."""
 
-from __future__ import annotations
-
 import math
 from typing import NamedTuple
 
@@ -30,8 +28,7 @@ class PhaseTrack:
 
     The turn is that between neighbours, over `wide` steps on each side, and at most `limit`. Without it, the
     values of `reach` steps on each side are summed. Below the coherence `least` the phase goes on as it turned
-    before. A step is answered once the `wide` steps after it are there.
-    """
+    before. A step is answered once the `wide` steps after it are there."""
 
     def __init__(self, reach: int, wide: int, limit: float, least: float):
         self._reach, self._wide, self._limit, self._least = reach, wide, limit, least
@@ -54,14 +51,12 @@ class PhaseTrack:
         back = numpy.exp(-1j * turn[:, None] * numpy.arange(-self._reach, self._reach + 1)) * self._near
         sums = (windows * back).sum(axis=1)
         coherence = numpy.abs(sums) / self._near.sum()
-        self._remember(turn[coherence >= self._least])
-        return Phases(self._unwrapped(numpy.angle(sums), turn, coherence), turn, coherence)
-
-    def _remember(self, turns: Reals) -> None:
-        """The mean turn of the last thousand coherent steps or so."""
+        turns = turn[coherence >= self._least]
         if turns.size:
+            # The mean turn of the last thousand coherent steps or so.
             self._seen = min(1000.0, self._seen + turns.size)
             self._usual += (float(turns.mean()) - self._usual) * min(1.0, turns.size / self._seen)
+        return Phases(self._unwrapped(numpy.angle(sums), turn, coherence), turn, coherence)
 
     def _unwrapped(self, angles: Reals, turns: Reals, coherence: Reals) -> Reals:
         phases = []

@@ -1,7 +1,5 @@
 """Which sample rate a signal has, by its pilot and its RDS."""
 
-from __future__ import annotations
-
 from typing import List, Optional, Tuple
 
 import numpy

@@ -1,11 +1,9 @@
 """The receiver of RDS: from MPX, or from IQ with one station or several, to bits, and how well they were received."""
 
-from __future__ import annotations
-
 import math
 from dataclasses import dataclass, field
 from fractions import Fraction
-from typing import Any, Collection, Dict, List, NamedTuple, Optional, Sequence, Union
+from typing import Any, Collection, Dict, List, NamedTuple, Optional, Sequence, Tuple
 
 import numpy
 
@@ -106,8 +104,16 @@ class Quality:
         told["rds_khz"] = round(level * DEVIATION_HZ / 1000, 2) if self.fm and level else None
         told["rds_dbfs"] = None if self.fm else _decibels(level * level)
         told["rds_to_pilot_db"] = _decibels((level / pilot) ** 2) if pilot else None
-        told["level_dbfs"] = self.channel_dbfs
+        told["level_dbfs"] = self._channel_dbfs(*self._level)
         return told
+
+    @property
+    def _level(self) -> Tuple[float, int]:
+        """The sum of the power of the station's channel in IQ, and over how many samples."""
+        return self.fm.level if self.fm else (0.0, 0)
+
+    def _channel_dbfs(self, power: float, count: float) -> Optional[float]:
+        return _decibels(power / count / self.full_scale**2) if count else None
 
     def _full_scale(self, frequency: float) -> float:
         """Of MPX at this frequency: a discriminator has 1, and a response."""
@@ -115,19 +121,11 @@ class Quality:
 
     def recent(self) -> Strength:
         """The signal since the last call."""
-        power, count = self.fm.level if self.fm else (0.0, 0)
-        now = numpy.array([*self.sums[2:], self.locked, power, count])
-        signal, noise, locked, power, count = (now - self._told).tolist()
+        now = numpy.array([*self.sums[2:], self.locked, *self._level])
+        signal, noise, locked, *level = (now - self._told).tolist()
         self._told = now
-        channel = _decibels(power / count / self.full_scale**2) if count else None
         snr = _decibels(signal / (2 * noise * CHANNEL_HZ / BIT_RATE)) if locked and noise else None
-        return Strength(channel, snr)
-
-    @property
-    def channel_dbfs(self) -> Optional[float]:
-        """The mean power of the station's channel in IQ."""
-        power, count = self.fm.level if self.fm else (0.0, 0)
-        return _decibels(power / count / self.full_scale**2) if count else None
+        return Strength(self._channel_dbfs(*level), snr)
 
 
 def _decibels(ratio: float) -> Optional[float]:
@@ -138,20 +136,12 @@ class Receiver:
     """From MPX, or the channel of one station around 0 Hz, to bits, decoded differentially; the bits wait for the signal
     of some 2 seconds after them. With `soft` it gives symbols, a byte each, in their place."""
 
-    def __init__(
-        self,
-        rate: Union[int, Fraction],
-        is_iq: bool = False,
-        full_scale: float = 1.0,
-        equalise: bool = False,
-        soft: bool = False,
-    ):
-        self._fm = FmReceiver(Fraction(rate), equalise) if is_iq else None
-        mpx_rate = Fraction(rate)
+    def __init__(self, rate: Fraction, is_iq: bool, full_scale: float, equalise: bool, soft: bool):
+        self._fm = FmReceiver(rate, equalise) if is_iq else None
         # Decisions are made after the equaliser, levels are measured before it.
         rows = 2 if equalise else 1
         shape = (CARRIER_HZ, CHIP_RATE, matched_filter, SAMPLES_PER_CHIP * CHIP_RATE)
-        band = Passband(mpx_rate, *shape, at_least(mpx_rate / 4), True)
+        band = Passband(rate, *shape, at_least(rate / 4), True)
         self._bands = Bands([band], rows)
         self.quality = Quality(full_scale, self._fm)
         self._bands.watch = lambda spectrum: self.quality.watch(spectrum, band.hz_per_bin, band.block)
@@ -165,11 +155,7 @@ class Receiver:
         self._held: Complexes = numpy.zeros(0, complex)
         self._sign = 1  # of the symbols since the last jump, so that they go on with the sign of those before
         self._decoder = DifferentialDecoder()
-        self._soft = SoftSymbols() if soft else None
-
-    @property
-    def is_soft(self) -> bool:
-        return self._soft is not None
+        self.is_soft, self._soft = soft, SoftSymbols() if soft else None
 
     def push(self, samples: Signal) -> Bits:
         return self._of_mpx(self._fm.push(samples) if self._fm else samples[None])
@@ -179,7 +165,7 @@ class Receiver:
         parts = [self._of_mpx(self._fm.finish())] if self._fm else []
         parts.append(self._of_parts(self._jumps.push(self._bands.finish()[0])))
         parts.append(self._of_parts(self._jumps.finish()))
-        parts.append(self._finished())
+        parts.append(self._of_symbols([chain.finish() for chain in self._chains], 0))
         parts += [self._soft.finish()] if self._soft else []
         return numpy.concatenate(parts)
 
@@ -192,16 +178,13 @@ class Receiver:
         found = []
         for number, part in enumerate(parts):
             if number:
-                found.append(self._finished())
+                found.append(self._of_symbols([chain.finish() for chain in self._chains], 0))
                 self._end = self._begin + self._chains[0].end
                 self._begin, self._size, self._sign = self._begin + self._size, 0, 1
                 self._chains = [SymbolChain(self._rate) for _ in self._chains]
             self._size += part.shape[1]
             found.append(self._of_symbols([chain.push(row) for chain, row in zip(self._chains, part)], HELD))
         return numpy.concatenate(found)
-
-    def _finished(self) -> Bits:
-        return self._of_symbols([chain.finish() for chain in self._chains], 0)
 
     def _of_symbols(self, found: List[Symbols], least: int) -> Bits:
         """After a jump the first symbols wait until there are `least`, which tell how many were lost."""
@@ -234,7 +217,7 @@ class Receiver:
         by chance, and no flip of a single symbol is a wrong bit alone."""
         after = self._held.real
         parity = self.quality.received.parity_over(missing + 1, DifferentialDecoder().push(after))
-        is_other = self._decoder.is_above != (after[0] > 0)
+        is_other = self._decoder.last.any() != (after[0] > 0)
         return 1 if parity is None or parity == is_other else -1
 
 
@@ -261,7 +244,6 @@ class Capture:
         return self._bits(self._channels.push(samples[None]) if self._channels else [samples[None]])
 
     def finish(self) -> List[Bits]:
-        """The bits of the last samples, which waited for more."""
         rest = self._channels.finish() if self._channels else []
         before = self._bits(rest) if rest else [numpy.zeros(0, "u1")] * len(self.receivers)
         parts = zip(before, self.receivers)

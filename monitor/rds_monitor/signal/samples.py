@@ -1,13 +1,11 @@
 """Samples of a signal, from WAV, FLAC or raw files or a pipe, in blocks: real for MPX, complex for IQ."""
 
-from __future__ import annotations
-
 import importlib
 import os
 import struct
 import sys
 from dataclasses import dataclass
-from typing import Any, BinaryIO, Iterator, Optional, Protocol, Tuple
+from typing import Any, BinaryIO, Iterator, List, Optional, Tuple, Union
 
 import numpy
 from numpy.typing import NDArray
@@ -23,34 +21,14 @@ FRAMES_PER_BLOCK = 1 << 16  # of a pipe, so that what comes live is not late
 FRAMES_OF_FILE = 1 << 18
 LARGEST_SAMPLE = 1e12  # well above that of any integer form
 # Bytes per sample and full scale of each sample form, low byte first.
-FORMS = {
-    "u8": (1, 128.0),
-    "s8": (1, 128.0),
-    "s16": (2, 2.0**15),
-    "s24": (3, 2.0**31),
-    "s32": (4, 2.0**31),
-}
-FORMS.update(f32=(4, 1.0), f64=(8, 1.0))
+FORMS = {"u8": (1, 128.0), "s8": (1, 128.0), "s16": (2, 2.0**15), "s24": (3, 2.0**31)}
+FORMS.update(s32=(4, 2.0**31), f32=(4, 1.0), f64=(8, 1.0))
 RAW_FORMS = ("f32", "s16", "u8")
 # By the format code, 1 for integers and 3 for floating point, and bits per sample.
 WAV_FORMS = {(1, 8): "u8", (1, 16): "s16", (1, 24): "s24", (1, 32): "s32", (3, 32): "f32", (3, 64): "f64"}
 WAV_EXTENSIBLE = 0xFFFE
 LONGEST_CHUNK = 1 << 16  # of a header that is looked at
-# Written if the length was not known, as into a pipe, or is in a chunk ds64.
-UNKNOWN_LENGTH = (0, 0xFFFFFFFF)
-
-
-class SampleSource(Protocol):
-    """A signal: its sample rate, whether it is IQ, the sample of full scale, the frequency of the centre of IQ if it is known, and
-    its samples a block at a time."""
-
-    rate: int
-    is_iq: bool
-    full_scale: float
-    centre: Optional[float]
-
-    def blocks(self) -> Iterator[Signal]:
-        ...
+UNKNOWN_LENGTH = (0, 0xFFFFFFFF)  # written if the length was not known, as into a pipe, or is in a chunk ds64
 
 
 @dataclass
@@ -69,7 +47,14 @@ class Layout:
         return self.channels * FORMS[self.form][0]
 
 
-# ---- WAV
+def beginning_of(blocks: Iterator[Signal], wanted: float) -> List[Signal]:
+    """The blocks up to this number of samples."""
+    found: List[Signal] = []
+    for samples in blocks:
+        found.append(samples)
+        if sum(map(len, found)) >= wanted:
+            break
+    return found
 
 
 def wav_layout(stream: BinaryIO) -> Layout:
@@ -85,7 +70,9 @@ def wav_layout(stream: BinaryIO) -> Layout:
         if name == b"data":
             break
         body = _exactly(stream, min(length + length % 2, LONGEST_CHUNK))
-        _skip(stream, length + length % 2 - len(body))
+        left = length + length % 2 - len(body)
+        while left:
+            left -= len(_exactly(stream, min(left, LONGEST_CHUNK)))
         if name == b"fmt ":
             described = body
         elif name == b"ds64" and length >= 16:
@@ -106,19 +93,11 @@ def wav_layout(stream: BinaryIO) -> Layout:
     return Layout(rate, channels, WAV_FORMS[code, width], long_length or known, centre)
 
 
-def _skip(stream: BinaryIO, length: int) -> None:
-    while length:
-        length -= len(_exactly(stream, min(length, LONGEST_CHUNK)))
-
-
 def _exactly(stream: BinaryIO, length: int) -> bytes:
     data = stream.read(length)
     if len(data) < length:
         raise Fault("the WAV file ends within its header")
     return data
-
-
-# ---- samples as numbers
 
 
 def numbers(data: bytes, form: str, kind: str = "f8") -> Reals:
@@ -217,6 +196,10 @@ class Flac:
     def blocks(self) -> Iterator[Signal]:
         for frames in self._file.blocks(FRAMES_PER_BLOCK, always_2d=True):
             yield channels_of(len(frames), frames, self._channels)
+
+
+# A signal: its sample rate, whether it is IQ, the sample of full scale, the frequency of the centre if known, and samples by the block.
+SampleSource = Union[StoredSamples, Flac]
 
 
 def chosen_channels(count: int, channel: Optional[int], is_iq: bool) -> Tuple[int, ...]:

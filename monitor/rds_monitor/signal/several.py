@@ -1,23 +1,22 @@
 """Several stations of one capture of IQ, each to bits of its own: `demod --stations`."""
 
-from __future__ import annotations
-
 import argparse
 import json
 import math
 import os
 import sys
 from itertools import chain
-from typing import Any, Callable, Dict, Iterator, List, Optional, Protocol, Sequence
+from typing import Any, Callable, Dict, List, Optional, Protocol, Sequence
 
 import numpy
 
-from ..rows.items import Fault, Misuse
+from ..rows.items import Fault
 from .centre import frequency_of, frequency_text
 from .found import HALF_CHANNEL_HZ, SETTLED, Spectrum, candidates, is_inside, spectrum_of, with_rds
-from .outputs import BitWriter, Packer, QualityLine, report_of
+from .outputs import QualityLine, report_of
+from .pack import BitWriter, Packer
 from .receiver import Capture, Receiver
-from .samples import SampleSource, Signal
+from .samples import SampleSource, Signal, beginning_of
 from .symbols import Bits
 
 SPECTRUM_SECONDS = 0.5  # of the beginning, in which stations are looked for
@@ -100,10 +99,6 @@ class TunedStation:
         else:
             self._writer.push(bits, last)
 
-    @property
-    def has_rds(self) -> bool:
-        return bool(self.receiver.quality.locked)
-
     def report(self) -> Dict[str, Any]:
         written = self._writer.written if self._writer else 0
         return {"frequency": self.frequency, **report_of(self.receiver, written)}
@@ -133,8 +128,8 @@ class TunedStations:
     ) -> None:
         """Up to `most` seconds. After a fault, or when interrupted, the bits up to there are written too."""
         blocks = self._source.blocks()
-        first = [] if self._named else beginning_of(blocks, self._source.rate)
-        self._begin(self._named or self._candidates(first))
+        first = [] if self._named else beginning_of(blocks, SPECTRUM_SECONDS * self._source.rate)
+        self._begin(first)
         try:
             for samples in chain(first, blocks):
                 self.seconds += samples.size / self._source.rate
@@ -146,22 +141,26 @@ class TunedStations:
                 if self.seconds >= most:
                     break
         finally:
-            self._finish()
+            last = self._capture.finish()
+            if self._waits:
+                self._push(last)
+                self._settle()
+                last = [numpy.zeros(0, "u1")] * len(self.stations)
+            self._push(last, last=True)
 
-    def _candidates(self, first: Sequence[Signal]) -> List[float]:
-        source, samples = self._source, numpy.concatenate([numpy.zeros(0, "c8"), *first])
-        self.spectrum = spectrum_of(samples, source.rate, source.full_scale)
-        return candidates(self.spectrum, self._tuning.centre)
-
-    def _begin(self, offsets: Sequence[float]) -> None:
+    def _begin(self, first: Sequence[Signal]) -> None:
+        source, tuning, offsets = self._source, self._tuning, list(self._named)
+        if not offsets:
+            samples = numpy.concatenate([numpy.zeros(0, "c8"), *first])
+            self.spectrum = spectrum_of(samples, source.rate, source.full_scale)
+            offsets = candidates(self.spectrum, tuning.centre)
         if not offsets:
             raise Fault("no station was found")
         for offset in self._equalised:
             if offset not in offsets:
-                raise Fault(f"{self._tuning.text(offset)} is equalised, but is no station")
-        source, tuning = self._source, self._tuning
+                raise Fault(f"{tuning.text(offset)} is equalised, but is no station")
         self._capture = Capture(source.rate, True, source.full_scale, offsets, self._equalised, self._soft)
-        self._offsets = list(offsets)
+        self._offsets = offsets
         for offset, receiver in zip(offsets, self._capture.receivers):
             self.stations.append(TunedStation(tuning.text(offset), tuning.hertz(offset), receiver))
         if not self._waits:
@@ -185,30 +184,6 @@ class TunedStations:
         """From now on their bits are written."""
         for station in self.stations:
             station.write_to(self._writer_of(station))
-
-    def _finish(self) -> None:
-        last = self._capture.finish()
-        if self._waits:
-            self._push(last)
-            self._settle()
-            last = [numpy.zeros(0, "u1")] * len(self.stations)
-        self._push(last, last=True)
-
-
-def beginning_of(blocks: Iterator[Signal], rate: int) -> List[Signal]:
-    found: List[Signal] = []
-    for samples in blocks:
-        found.append(samples)
-        if sum(map(len, found)) >= SPECTRUM_SECONDS * rate:
-            break
-    return found
-
-
-def judge_stations(arguments: argparse.Namespace) -> None:
-    if arguments.offset or arguments.no_equaliser:
-        raise Misuse("--offset and --no-equaliser are for one station, --at and --equalise for --stations")
-    if arguments.unpacked and arguments.output == "-":
-        raise Misuse("--unpacked needs a folder: name it by --output")
 
 
 def run_stations(source: SampleSource, arguments: argparse.Namespace) -> int:
@@ -236,6 +211,6 @@ def run_stations(source: SampleSource, arguments: argparse.Namespace) -> int:
         for station in stations.stations:
             if station.name in tellers:
                 tellers[station.name].end(station.report())
-    if not any(station.has_rds for station in stations.stations):
+    if not any(station.receiver.quality.locked for station in stations.stations):
         raise Fault("no RDS was found at any frequency")
     return 0

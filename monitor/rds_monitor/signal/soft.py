@@ -1,7 +1,5 @@
 """Symbols for soft decisions: signed bytes, the log-likelihood ratios of their signs in 1/16 nat."""
 
-from __future__ import annotations
-
 import numpy
 
 from .samples import Complexes, Reals
@@ -17,16 +15,14 @@ def around(segments: Reals, reach: int) -> Reals:
     """Sums of the segments up to `reach` on both sides, of all but the `AMPLITUDE_REACH` at both ends."""
     beside = AMPLITUDE_REACH - reach
     inner = segments[beside : segments.size - beside]
-    sums: Reals = numpy.convolve(inner, numpy.ones(2 * reach + 1), "valid")
-    return sums
+    return numpy.convolve(inner, numpy.ones(2 * reach + 1), "valid")
 
 
 class SoftSymbols:
     """Makes bytes of symbols on the real axis. A symbol that was lost is 0, in the input and in the output.
 
     With the amplitude A and the noise's variance s, a value x is exp(2 A x / s) times likelier if 1 was sent than if -1 was. The
-    imaginary parts have only noise.
-    """
+    imaginary parts have only noise."""
 
     def __init__(self) -> None:
         self._symbols: Complexes = numpy.zeros(0, complex)  # that were not answered
@@ -44,7 +40,6 @@ class SoftSymbols:
         return self._answered(max(0, last - AMPLITUDE_REACH))
 
     def finish(self) -> Bits:
-        """The bytes of the last symbols, which waited for more."""
         due = self._symbols.size
         return self.push(numpy.zeros((AMPLITUDE_REACH + 1) * Carrier.SYMBOLS_PER_SEGMENT, complex))[:due]
 

@@ -1,10 +1,7 @@
 """From RDS around 0 Hz to differentially decoded bits: chip clock, pairs of chips, carrier phase, decisions.
 
 A chip is half a biphase symbol; chips come at 2,375 a second, and the two of a symbol have opposite signs. Estimates
-are by segments of the signal, from what is before and after: there is no loop that would have to lock.
-"""
-
-from __future__ import annotations
+are by segments of the signal, from what is before and after: there is no loop that would have to lock."""
 
 import math
 from typing import NamedTuple, Optional
@@ -26,8 +23,7 @@ def powers(values: Complexes) -> Reals:
 
 
 class Clocked(NamedTuple):
-    """Chips, and of each segment that was answered: by which part of their rate they are too fast, and the
-    coherence."""
+    """Chips, and of each segment that was answered: by which part of their rate they are too fast, and the coherence."""
 
     chips: Complexes
     fast: Reals
@@ -35,8 +31,7 @@ class Clocked(NamedTuple):
 
 
 class ChipClock:
-    """Takes a sample at each chip. The power of the signal, which is 0 between two unlike chips, has a line at the
-    chip rate, whose phase is that of the chips."""
+    """Takes a sample at each chip. The signal's power, 0 between two unlike chips, has a line at the chip rate in the chips' phase."""
 
     CHIPS_PER_SEGMENT = 64
     REACH, WIDE = 14, 20  # segments of 27 ms
@@ -86,12 +81,9 @@ class ChipClock:
         numbers = numpy.arange(self._chip, math.floor(counted[-1]) + 1)
         self._chip += numbers.size
         result: Reals = numpy.interp(numbers, counted, places)
-        return self._noted(result)
-
-    def _noted(self, places: Reals) -> Reals:
-        if places.size:
-            self.begin, self.end = self.begin or float(places[0]), float(places[-1]) + self._spacing
-        return places
+        if result.size:
+            self.begin, self.end = self.begin or float(result[0]), float(result[-1]) + self._spacing
+        return result
 
     def _taken(self, places: Reals) -> Complexes:
         chips = interpolated(self._signal, places - self._first)
@@ -253,7 +245,6 @@ class SymbolChain:
         return self._of_chips(self._clock.push(signal))
 
     def finish(self) -> Symbols:
-        """The symbols of the last samples, which waited for more."""
         parts = [self._of_chips(self._clock.finish())]
         for found in (self._carrier.push(self._pairing.finish()), self._carrier.finish()):
             parts.append(self._of_symbols(found))
@@ -288,15 +279,10 @@ class DifferentialDecoder:
     """A bit is 1 if a symbol has another sign than the one before it, so that polarity does not matter."""
 
     def __init__(self) -> None:
-        self._last: NDArray[numpy.bool_] = numpy.zeros(0, bool)
+        self.last: NDArray[numpy.bool_] = numpy.zeros(0, bool)  # whether the last symbol was above 0
 
     def push(self, reals: Signal) -> Bits:
-        signs = numpy.concatenate([self._last, reals > 0])
-        self._last = signs[-1:]
+        signs = numpy.concatenate([self.last, reals > 0])
+        self.last = signs[-1:]
         bits: Bits = (signs[1:] != signs[:-1]).astype(numpy.uint8)
         return bits
-
-    @property
-    def is_above(self) -> bool:
-        """Whether the last symbol was above 0."""
-        return bool(self._last.any())

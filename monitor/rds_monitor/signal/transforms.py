@@ -1,8 +1,7 @@
 """Fourier transforms of rows of complex numbers in single precision: by pyFFTW, scipy or numpy, the first that is installed."""
 
-from __future__ import annotations
-
 import importlib
+from contextlib import suppress
 from functools import lru_cache
 from typing import Any, Dict, Tuple
 
@@ -37,11 +36,8 @@ class Fftw:
 @lru_cache(None)
 def transforms() -> Any:
     """What has `fft` and `ifft`."""
-    try:
+    with suppress(ImportError):
         return Fftw()
-    except ImportError:
-        pass
-    try:
+    with suppress(ImportError):
         return importlib.import_module("scipy.fft")
-    except ImportError:
-        return importlib.import_module("numpy.fft")
+    return importlib.import_module("numpy.fft")

@@ -1,7 +1,5 @@
 """Alarms of a station: when each begins and ends."""
 
-from __future__ import annotations
-
 import math
 import re
 from collections import deque
@@ -28,10 +26,8 @@ COUNTS, EXPECTED = ("errors", "ct", "flapping"), ("pi", "ps", "rt", "af")
 # A block error rate ends an alarm below this part of the limit, and a number of sessions at this one.
 RECOVERED, CALM = 0.8, 0.5
 HOUR = 3600.0
-# Reads come each second, so a pause of bytes or of valid blocks is one only if it is longer.
-PAUSE = 2.0
-# By this part the bits of a receiver are faster or slower than those of a station.
-OFF_PACE = 0.01
+PAUSE = 2.0  # reads come each second, so a pause of bytes or of valid blocks is one only if it is longer
+OFF_PACE = 0.01  # by this part the bits of a receiver are faster or slower than those of a station
 
 
 class Change(NamedTuple):
@@ -56,8 +52,7 @@ class Alarm:
     def __init__(self, after: float, clear: float):
         self.after, self._clear = after, clear
         self.text: Optional[str] = None
-        # Since when the fault is gone.
-        self.gone: Optional[float] = None
+        self.gone: Optional[float] = None  # since when the fault is gone
 
     def judge(self, fault: Optional[Trouble], now: float, gone: Optional[float] = None) -> Optional[bool]:
         """Whether the alarm begins or ends now. A fault that is no more may be `gone` earlier."""
@@ -125,8 +120,7 @@ class Alarms:
         def ago(times: Dict[str, float]) -> Dict[str, float]:
             return {name: round(self._now - time, 3) for name, time in times.items()}
 
-        alarms = self._alarms.items()
-        gone = {name: one.gone for name, one in alarms if one.text and one.gone is not None}
+        gone = {name: one.gone for name, one in self._alarms.items() if one.text and one.gone is not None}
         return {
             "ago": ago(self._since),
             "gone": ago(gone),
@@ -139,8 +133,7 @@ class Alarms:
         }
 
     def resume(self, lasting: Dict[str, Tuple[str, float]], counted: Dict[str, Any], away: float) -> None:
-        """Alarms that lasted when the last watch ended, with their seconds, and all that it counted. No watch was there for `away`
-        seconds."""
+        """Alarms that lasted when the last watch ended, with their seconds, and all that it counted, `away` seconds ago."""
         for name, (text, seconds) in lasting.items():
             if name in self._alarms:
                 self._alarms[name].text = self.lasting[name] = text
@@ -154,39 +147,30 @@ class Alarms:
         self._minutes.extend(counted.get("minutes", ()))
         self._offsets.extend(counted.get("offsets", ()))
 
-    # ---- observations
-
     def begin_session(self, now: float) -> None:
         self._sessions.append(now)
         self._unheard = self._unpaced = 0.0
         self._fit.clear()
 
     def take(
-        self,
-        changes: Sequence[Event],
-        minutes: Iterable[float],
-        ticks: Sequence[Tick],
-        timing: Timing,
-        ahead: float,
+        self, changes: List[Event], minutes: List[float], ticks: List[Tick], timing: Timing, ahead: float
     ) -> None:
         """Changes of the contents, per cent of bad blocks by minute, and clock times. UTC is `ahead` of the monotonic clock."""
         for event in changes:
             item, changed = event.item.partition(":")[0], timing.utc(event.place) - ahead
             self._changed[item] = changed
             if item in ("ps", "rt"):
-                self._take_text(item, None if event.value is None else event.text, changed)
+                # The text before it fitted until then: a dynamic PS shows its parts in turn.
+                if self._fit.get(item):
+                    self._since[item] = changed
+                text = None if event.value is None else event.text
+                self._fit[item] = text is not None and self._fitting(item, text)
+                if text != self._texts.get(item):
+                    self._since[f"{item}_stuck"], self._texts[item] = changed, text
         self._minutes.extend(minutes)
         self._offsets.extend(tick.time - timing.utc(tick.place) for tick in ticks)
         if ticks:
             self._since["ct_absent"] = timing.utc(ticks[-1].place) - ahead
-
-    def _take_text(self, name: str, text: Optional[str], changed: float) -> None:
-        """The text before it fitted until then: a dynamic PS shows its parts in turn."""
-        if self._fit.get(name):
-            self._since[name] = changed
-        self._fit[name] = text is not None and self._fitting(name, text)
-        if text != self._texts.get(name):
-            self._since[f"{name}_stuck"], self._texts[name] = changed, text
 
     def judge(self, watched: Watched, now: float) -> List[Change]:
         """The alarms that begin or end."""
@@ -251,8 +235,6 @@ class Alarms:
         if begins or all(value < RECOVERED * limits.errors_percent for value in last):
             text = f"{sum(last) / count:.1f} % of the blocks bad in {count} min"
             self._judge("errors", Trouble(self._now, text) if begins else None)
-
-    # ---- contents
 
     def _hold(self, passed: float, *names: str) -> None:
         """Nothing can be said of the seconds that passed."""

@@ -1,7 +1,5 @@
 """`check --station`: the verdict on a station by the database of a watch."""
 
-from __future__ import annotations
-
 import fcntl
 import json
 import os
@@ -66,8 +64,7 @@ def seen_of(state: Dict[str, Any]) -> Seen:
     minute, last, held = state["minute"], state["last_group_utc"], state["held"]
     sent = minute["sent"] if minute else 0
     valid, corrected = (100 * minute[name] / sent if sent else None for name in ("valid", "corrected"))
-    # News are up to ten seconds old.
-    age = None if last is None else max(0.0, state["utc"] - last)
+    age = None if last is None else max(0.0, state["utc"] - last)  # news are up to ten seconds old
     names = state.get("names") or [name for name in [held.get("ps", "").strip()] if name]
     return Seen(valid, corrected, age, held.get("pi"), names, "blocks of the last minute", True)
 

@@ -1,7 +1,5 @@
 """From the output of a receiver's command to packed bits, or to symbols."""
 
-from __future__ import annotations
-
 import json
 import math
 from typing import Optional, Sequence
@@ -9,7 +7,7 @@ from typing import Optional, Sequence
 import numpy
 
 from ..rows.clock import RATE
-from ..signal.outputs import Packer
+from ..signal.pack import Packer
 from ..signal.receiver import Capture, Strength
 from ..signal.samples import FORMS, channels_of, checked, numbers
 from .table import StationTable

@@ -1,15 +1,10 @@
-"""The reception of a station, judged as a plugin of a monitoring system: one line, performance data, and an exit
-status.
+"""The reception of a station, judged as a plugin of a monitoring system: one line, performance data, and an exit status.
 
-What cannot be judged is UNKNOWN, whatever the reason: an error in the command line too.
-"""
-
-from __future__ import annotations
+What cannot be judged is UNKNOWN, whatever the reason: an error in the command line too."""
 
 import argparse
 import io
 import os
-import re
 import sys
 import time
 from collections import deque
@@ -19,7 +14,7 @@ import numpy
 
 from ..content.decoder import Decoder
 from ..measures.measure import Programmes
-from ..rows.clock import RATE, number_of, rate_of
+from ..rows.clock import RATE, number_of, option_type, rate_of
 from ..rows.compressed import decompressed
 from ..rows.heads import is_listing
 from ..rows.hours import hour_of
@@ -32,13 +27,8 @@ from .verdict import UNKNOWN, WORDS, Limits, Seen, Verdict
 
 # A second of a listing has at most 140 rows: an acquisition, a group and a loss per block; a row, at most 80 bytes.
 LISTING_BYTES = 140 * 80
-# A dynamic PS shows all of its parts within a minute.
-NAMES_FOR = 60.0
-# A file that was written to less than this ago may just be between two writes.
-PAUSE = 5.0
-
-
-# ---- reception
+NAMES_FOR = 60.0  # a dynamic PS shows all of its parts within a minute
+PAUSE = 5.0  # a file that was written to less than this ago may just be between two writes
 
 
 class Reception:
@@ -81,13 +71,6 @@ class Reception:
         before = [name for place, name in self._names if place < since]
         return before[-1:] + [name for place, name in self._names if place >= since]
 
-    def per_cent(self, blocks: int) -> float:
-        """Of the blocks sent. A block more than was sent whole may be read where the input is cut."""
-        sent = (self.end - self.begin) // BLOCK_BITS
-        if not sent:
-            raise Fault("there is no block in it")
-        return min(100.0, 100 * blocks / sent)
-
 
 def received(source: Source, last: Optional[float], rate: float, names: bool) -> Reception:
     """What the last session of a source tells: of its last seconds, if only these are judged."""
@@ -126,12 +109,8 @@ def _add_last(reception: Reception, kept: List[Rows], source: Source, last: floa
     begins = begins_of(rows)
     rows, begins = rows[begins >= reception.begin], begins[begins >= reception.begin]
     if len(rows) and begins[0] < reception.begin + GROUP_BITS:
-        # The group that the first second cuts is left out whole.
-        reception.begin = int(begins[0])
+        reception.begin = int(begins[0])  # the group that the first second cuts is left out whole
     reception.add(rows)
-
-
-# ---- opening
 
 
 def open_end(paths: Sequence[str], last: Optional[float], arguments: argparse.Namespace) -> Source:
@@ -155,11 +134,10 @@ def open_end(paths: Sequence[str], last: Optional[float], arguments: argparse.Na
         part = last is not None or all(map(hour_of, paths))
         how = Reading(unfinished_ok=part, length=length, trust_length=True, sessions=True)
         return Listing(data, b"", how)
-    return Recording(data, b"", Reading(rules_of(arguments)))
+    return Recording(data, b"", Reading(rules_of(arguments)), None, None)
 
 
-# The first bytes of an input, and the rest.
-Opened = Tuple[bytes, Readable]
+Opened = Tuple[bytes, Readable]  # the first bytes of an input, and the rest
 
 
 def _open(path: str) -> Opened:
@@ -223,9 +201,6 @@ class _Chain:
         return data
 
 
-# ---- judging
-
-
 def seen_in(reception: Reception, quiet: float, rate: float) -> Seen:
     """`quiet` is how many seconds ago the file was written to."""
     if quiet >= PAUSE:
@@ -233,7 +208,12 @@ def seen_in(reception: Reception, quiet: float, rate: float) -> Seen:
     age = None
     if reception.whole_until is not None:
         age = (reception.end - reception.whole_until) / rate + (quiet if quiet < PAUSE else 0)
-    valid, corrected = map(reception.per_cent, (reception.valid, reception.corrected))
+    sent = (reception.end - reception.begin) // BLOCK_BITS
+    if not sent:
+        raise Fault("there is no block in it")
+    # Of the blocks sent. A block more than was sent whole may be read where the input is cut.
+    counts = reception.valid, reception.corrected
+    valid, corrected = (min(100.0, 100 * count / sent) for count in counts)
     pi = None if reception.pi is None else f"{reception.pi:04X}"
     return Seen(valid, corrected, age, pi, [name.strip() for name in reception.names()])
 
@@ -247,9 +227,6 @@ def report(status: int, text: str, data: str = "") -> int:
     return status
 
 
-# ---- the command
-
-
 def percent_of(text: str) -> float:
     value = number_of(text)
     if value > 100:
@@ -257,10 +234,7 @@ def percent_of(text: str) -> float:
     return value
 
 
-def pi_of(text: str) -> str:
-    if not re.fullmatch(r"[0-9A-Fa-f]{4}", text):
-        raise argparse.ArgumentTypeError(f"{text!r} is not four hexadecimal digits")
-    return text.upper()
+pi_of = option_type("[0-9A-Fa-f]{4}", str.upper, "is not four hexadecimal digits")
 
 
 def name_of(text: str) -> str:
@@ -343,8 +317,7 @@ def limits_of(arguments: argparse.Namespace) -> Limits:
 
 
 def _run(arguments: argparse.Namespace) -> int:
-    limits = limits_of(arguments)
-    wanted = limits, arguments.pi, arguments.name
+    wanted = limits_of(arguments), arguments.pi, arguments.name
     if arguments.station is not None:
         return report_of(judge_station(arguments.input, arguments.station, *wanted))
     if arguments.last is not None and arguments.length is not None:

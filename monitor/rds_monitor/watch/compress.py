@@ -1,7 +1,5 @@
 """Compresses hours' files that are closed."""
 
-from __future__ import annotations
-
 import os
 
 from ..rows.compressed import zstandard
@@ -16,8 +14,7 @@ def compress(folder: str, path: str, records: Records) -> None:
     does the rest."""
     plain = os.path.join(folder, path)
     if not os.path.exists(plain):
-        # Without rows, or deleted by somebody.
-        return
+        return  # without rows, or deleted by somebody
     new, made = f"{plain}{SUFFIX}.new", f"{plain}{SUFFIX}"
     try:
         with open(plain, "rb") as source, open(new, "wb") as file:

@@ -1,10 +1,9 @@
 """Lines for the journal, and words to systemd: by a datagram to the socket that it names, the only one that is ever used."""
 
-from __future__ import annotations
-
 import os
 import socket
 import sys
+from contextlib import suppress
 
 from ..content.charset import printable
 
@@ -14,11 +13,8 @@ PRIORITIES = {"error": 3, "warning": 4, "notice": 5, "info": 6}
 def say(priority: str, text: str) -> None:
     """A line on standard error. The journal takes the priority off its front."""
     mark = f"<{PRIORITIES[priority]}>" if "JOURNAL_STREAM" in os.environ else "rds-monitor watch: "
-    try:
+    with suppress(OSError):  # nobody reads it: the watch goes on
         print(f"{mark}{printable(text)}", file=sys.stderr, flush=True)
-    except OSError:
-        # Nobody reads it: the watch goes on.
-        pass
 
 
 def notify(text: str) -> None:
@@ -26,9 +22,6 @@ def notify(text: str) -> None:
     address = os.environ.get("NOTIFY_SOCKET", "")
     if address[:1] not in ("/", "@"):
         return
-    try:
-        with socket.socket(socket.AF_UNIX, socket.SOCK_DGRAM | socket.SOCK_CLOEXEC) as sock:
-            sock.sendto(text.encode("ascii"), "\0" + address[1:] if address[0] == "@" else address)
-    except OSError:
-        # It will say itself that it heard nothing.
-        pass
+    # Of a fault it will say itself that it heard nothing.
+    with suppress(OSError), socket.socket(socket.AF_UNIX, socket.SOCK_DGRAM | socket.SOCK_CLOEXEC) as sock:
+        sock.sendto(text.encode("ascii"), "\0" + address[1:] if address[0] == "@" else address)

@@ -1,7 +1,5 @@
 """A session that goes on: bits to rows, rows to hours' files and records."""
 
-from __future__ import annotations
-
 import os
 from contextlib import suppress
 from typing import Dict, List, NamedTuple, Optional, Tuple
@@ -19,8 +17,7 @@ from .bits import mean_of
 from .records import PartGrew, PartKey, PartOpened, PartTold, Record
 from .times import Arrivals, Timing
 
-# Seconds after which the database learns how far a session is, if there is nothing else to say.
-NEWS = 10.0
+NEWS = 10.0  # seconds after which the database learns how far a session is, if there is nothing else to say
 
 
 class Append(NamedTuple):
@@ -44,13 +41,10 @@ class LiveSession:
         self._path, self._size = "", 0
         self._cut = 0
         self._early: List[Rows] = []
-        # Where the last row ended, while there is sync.
-        self._row_end: Optional[int] = None
-        # Where the last whole group ended.
-        self.whole_end: Optional[int] = None
+        self._row_end: Optional[int] = None  # where the last row ended, while there is sync
+        self.whole_end: Optional[int] = None  # where the last whole group ended
         self._news = 0.0
-        # Of the last minutes, by their numbers.
-        self._strengths: Dict[int, List[Strength]] = {}
+        self._strengths: Dict[int, List[Strength]] = {}  # of the last minutes, by their numbers
         self.appends: List[Append] = []
         self.records: List[Record] = []
         self.told: List[Tuple[Told, Timing]] = []
@@ -82,16 +76,6 @@ class LiveSession:
         parts = [one for strengths in list(self._strengths.values())[-2:] for one in strengths]
         return mean_of(parts) if parts else Strength(None, None)
 
-    def _heard(self, told: Told) -> Told:
-        """With the strengths of the minutes."""
-        minutes = [
-            minute._replace(**mean_of(self._strengths[minute.number])._asdict())
-            if minute.number in self._strengths
-            else minute
-            for minute in told.minutes
-        ]
-        return told._replace(minutes=minutes)
-
     def tick(self, utc: float) -> None:
         """Makes rows and records of the bits so far."""
         timing = self.arrivals.timing
@@ -100,7 +84,6 @@ class LiveSession:
         if self.part is None:
             if utc - timing.start < Arrivals.SETTLING * self._speed:
                 return
-            self._key = PartKey(f"{self._station} {utc_text(timing.start)}", 0)
             self._open(0, 0)
         elif self.arrivals.is_late():
             self._jump(self.arrivals.delay())
@@ -127,12 +110,12 @@ class LiveSession:
         if self.part:
             self._open(begin, self.place)
 
-    # ---- parts
-
     def _open(self, begin: int, at: int) -> None:
         """A part from the position `begin` on, in the hour of the position `at`: a group may have begun in the one before."""
         timing = self.arrivals.timing
         assert timing is not None
+        if self.part is None:
+            self._key = PartKey(f"{self._station} {utc_text(timing.start)}", 0)
         hour = timing.utc(at) // HOUR * HOUR
         self._cut = timing.place(hour + HOUR)
         self.part, self._timing = Part(Clock(*timing), begin, self.contents), timing
@@ -178,20 +161,20 @@ class LiveSession:
         text = text_of(rows)
         self._size += len(text)
         self.appends.append(Append(self._path, text))
-        self._note_whole(rows)
+        whole = rows["place"][rows["what"] == GROUP][(kinds_of(groups_in(rows)) == VALID).all(axis=1)]
+        if len(whole):
+            self.whole_end = int(whole[-1]) + GROUP_BITS
         last = rows[-1:]
         end, what = int(ends_of(last)[0]), last["what"][0]
         self._row_end = None if what == LOSS else end - BLOCK_BITS if what == ACQUIRED else end
 
-    def _note_whole(self, rows: Rows) -> None:
-        whole = rows["place"][rows["what"] == GROUP][(kinds_of(groups_in(rows)) == VALID).all(axis=1)]
-        if len(whole):
-            self.whole_end = int(whole[-1]) + GROUP_BITS
-
     def _collect(self) -> bool:
-        """Hands over what the part completed, and says whether the database gets any of it."""
+        """Hands over what the part completed, with the strengths of its minutes, and says whether the database gets any of it."""
         assert self.part and self._timing
-        told = self._heard(self.part.taken())
+        told = self.part.taken()
+        for at, minute in enumerate(told.minutes):
+            if minute.number in self._strengths:
+                told.minutes[at] = minute._replace(**mean_of(self._strengths[minute.number])._asdict())
         if told.changes or told.minutes or told.ticks:
             self.told.append((told, self._timing))
         if told.minutes or told.events or told.outages:
@@ -216,7 +199,6 @@ class LiveSession:
             rows, totals = self._decoder.finish()
             self._early.append(rows)
         if self.part is None:
-            self._key = PartKey(f"{self._station} {utc_text(self.arrivals.timing.start)}", 0)
             self._open(0, 0)
         self._advance(self._taken(), self.place, utc)
         if totals and (totals.groups or totals.acquired):

@@ -1,39 +1,35 @@
 """The watch: all stations, tick by tick."""
 
-from __future__ import annotations
-
 import math
 import os
 import sqlite3
 import subprocess
 from collections import deque
 from functools import partial
-from typing import Callable, Deque, Dict, Iterable, List, Optional, Tuple, Union
+from typing import Callable, Deque, Dict, Iterable, List, Optional, Tuple
 
 from ..db.standing import availability
 from ..rows.clock import DAY
 from ..rows.decoders import NewDecoder
+from ..rows.extent import replace
 from .alarms import Alarm, Change, Trouble, words_for
 from .compress import compress
 from .live import Append
 from .metrics import metrics_text
-from .pages import replace, write_pages
+from .pages import write_pages
 from .receiver import Keeper, Launch
 from .records import WATCH, AlarmChanged, Record, Records, StateSeen, WatchBegan
 from .retention import tidy
-from .shared import SharedReceiver, Tap
+from .shared import AnyKeeper, SharedReceiver
 from .station import Station
 from .table import StationTable, Table
 from .times import Now, SteadyUtc, Times
 from .writer import Batch, Say, WriterThread, last_states
 
 PAGES_EVERY, TIDY_EVERY = 60.0, 3600.0
-# Rows of a station that wait for the disk, in bytes; the oldest are given up first.
-MOST_WAITING = 8 << 20
-# A batch takes milliseconds.
-HANGS = 5.0
-# Commands of the user's for alarms: how many at a time, and for how long.
-MOST_HOOKS, HOOK_SECONDS = 4, 60.0
+MOST_WAITING = 8 << 20  # rows of a station that wait for the disk, in bytes; the oldest are given up first
+HANGS = 5.0  # a batch takes milliseconds
+MOST_HOOKS, HOOK_SECONDS = 4, 60.0  # commands of the user's for alarms: how many at a time, and for how long
 
 
 class Hooks:
@@ -81,13 +77,11 @@ class Watch:
         self._clock = SteadyUtc(self._now, times.speed)
         self._keep = table.keep
         self.stations: Dict[str, Station] = {}
-        # By the receiver's name.
-        self._shared: Dict[str, SharedReceiver] = {}
+        self._shared: Dict[str, SharedReceiver] = {}  # by the receiver's name
         self._leaving: List[Station] = []
         self._appends: List[Append] = []
         self._records: List[Record] = []
-        # Hours' files that are closed, to be compressed one at a time.
-        self._closed: Deque[str] = deque()
+        self._closed: Deque[str] = deque()  # hours' files that are closed, to be compressed one at a time
         self._hooks = Hooks(say)
         self._busy_since: Optional[float] = None
         self._unwritten_since: Optional[float] = None
@@ -107,21 +101,18 @@ class Watch:
         return {name: (text, max(0.0, self.utc - begin)) for name, (text, begin) in lasting}
 
     def _add(self, table: StationTable) -> Station:
-        given = self._decoder, self._times.speed, self._now.steady, self._say
-        station = Station(table, self._keeper(table), *given)
+        speed, now, receiver = self._times.speed, self._now.steady, table.receiver
+        if receiver is None:
+            keeper: AnyKeeper = Keeper(table.command, table.patience * speed, self._launch, now)
+        else:
+            shared = self._shared.get(receiver.name)
+            if shared is None or shared.table != receiver:
+                shared = self._shared[receiver.name] = SharedReceiver(receiver, speed, self._launch, now)
+            keeper = shared.tap(table.hertz, now)
+        station = Station(table, keeper, self._decoder, speed, now, self._say)
         station.records.append(WatchBegan(table.name, self.utc))
         self.stations[table.name] = station
         return station
-
-    def _keeper(self, table: StationTable) -> Union[Keeper, Tap]:
-        """Of a command of its own, or of one that it shares."""
-        speed, now, receiver = self._times.speed, self._now.steady, table.receiver
-        if receiver is None:
-            return Keeper(table.command, table.patience * speed, self._launch, now)
-        shared = self._shared.get(receiver.name)
-        if shared is None or shared.table != receiver:
-            shared = self._shared[receiver.name] = SharedReceiver(receiver, speed, self._launch, now)
-        return shared.tap(table.hertz, now)
 
     @property
     def utc(self) -> float:
@@ -221,8 +212,7 @@ class Watch:
             return
         after: List[Callable[[Records], None]] = []
         utc, steady = self.utc, self._now.steady
-        # While the database cannot be written, they would only wait.
-        is_well = self._writer.fault is None
+        is_well = self._writer.fault is None  # while the database cannot be written, they would only wait
         if is_well and steady >= self._pages_at:
             self._pages_at = steady + PAGES_EVERY
             states = {name: station.state(utc) for name, station in self.stations.items()}
@@ -262,8 +252,6 @@ class Watch:
             compress(self._folder, path, records)
         except (OSError, sqlite3.Error) as error:
             self._say("error", f"{path} cannot be compressed: {error}")
-
-    # ---- changes of the table, and the end
 
     def reload(self, table: Table) -> None:
         """Stations whose receiver is the same go on."""

@@ -1,7 +1,5 @@
 """The state of the stations in the text format of Prometheus."""
 
-from __future__ import annotations
-
 from typing import Any, Dict, Iterable, Iterator, List, Mapping, NamedTuple, Tuple
 
 from ..db.standing import STATES, Availability, bad_in, standing_of
@@ -9,34 +7,27 @@ from .alarms import NAMES
 
 
 class Metric(NamedTuple):
+    """A counter if its name ends so, or else a gauge."""
+
     name: str
-    kind: str
     help: str
 
 
-METRICS = (
-    Metric("rds_receiver_up", "gauge", "Whether the receiver's command runs."),
-    Metric("rds_receiver_starts_total", "counter", "Starts of the receiver's command since the watch began."),
-    Metric(
-        "rds_blocks_total",
-        "counter",
-        "Blocks by outcome since the watch began: valid, corrected, uncorrectable (lost), sent without sync (missing).",
-    ),
-    Metric("rds_bad_blocks_ratio", "gauge", "Of the blocks of the last minute, the part that was not valid."),
-    Metric("rds_station_state", "gauge", "Whether the station is in this state."),
-    Metric(
-        "rds_day_seconds",
-        "gauge",
-        "Seconds of the last 24 hours: received, noise, down (no session), unknown (no watch).",
-    ),
-    Metric("rds_last_group_timestamp_seconds", "gauge", "When the last whole group ended."),
-    Metric("rds_clock_offset_seconds", "gauge", "The station's clock time (CT) less that of this machine."),
-    Metric("rds_pi_as_expected", "gauge", "Whether the PI is an expected one."),
-    Metric("rds_snr_db", "gauge", "Signal-to-noise ratio of RDS in the last minute or two, of MPX and IQ."),
-    Metric("rds_level_dbfs", "gauge", "Power of the station's channel in the last minute or two, of IQ."),
-    Metric("rds_alarm", "gauge", "Whether the alarm lasts."),
-    Metric("rds_watch_timestamp_seconds", "gauge", "When this file was written."),
-)
+_METRICS = """\
+rds_receiver_up: Whether the receiver's command runs.
+rds_receiver_starts_total: Starts of the receiver's command since the watch began.
+rds_blocks_total: Blocks by outcome since the watch began: valid, corrected, uncorrectable (lost), sent without sync (missing).
+rds_bad_blocks_ratio: Of the blocks of the last minute, the part that was not valid.
+rds_station_state: Whether the station is in this state.
+rds_day_seconds: Seconds of the last 24 hours: received, noise, down (no session), unknown (no watch).
+rds_last_group_timestamp_seconds: When the last whole group ended.
+rds_clock_offset_seconds: The station's clock time (CT) less that of this machine.
+rds_pi_as_expected: Whether the PI is an expected one.
+rds_snr_db: Signal-to-noise ratio of RDS in the last minute or two, of MPX and IQ.
+rds_level_dbfs: Power of the station's channel in the last minute or two, of IQ.
+rds_alarm: Whether the alarm lasts.
+rds_watch_timestamp_seconds: When this file was written."""
+METRICS = [Metric(*line.split(": ", 1)) for line in _METRICS.splitlines()]
 
 Sample = Tuple[str, Dict[str, str], float]
 
@@ -53,18 +44,15 @@ def metrics_text(
 
 def _text(metric: Metric, samples: Iterable[Sample]) -> str:
     lines: List[str] = [f"{name}{_labels(labels)} {value:.15g}\n" for name, labels, value in samples]
-    head = f"# HELP {metric.name} {metric.help}\n# TYPE {metric.name} {metric.kind}\n"
+    kind = "counter" if metric.name.endswith("_total") else "gauge"
+    head = f"# HELP {metric.name} {metric.help}\n# TYPE {metric.name} {kind}\n"
     return head + "".join(lines) if lines else ""
 
 
 def _labels(labels: Dict[str, str]) -> str:
-    if not labels:
-        return ""
-    return "{" + ",".join(f'{name}="{_escaped(value)}"' for name, value in labels.items()) + "}"
-
-
-def _escaped(text: str) -> str:
-    return text.replace("\\", "\\\\").replace('"', '\\"').replace("\n", "\\n")
+    escapes = str.maketrans({"\\": "\\\\", '"': '\\"', "\n": "\\n"})
+    told = ",".join(f'{name}="{value.translate(escapes)}"' for name, value in labels.items())
+    return f"{{{told}}}" if told else ""
 
 
 def _samples(name: str, state: Dict[str, Any], day: Availability) -> Iterator[Sample]:

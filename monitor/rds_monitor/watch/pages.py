@@ -1,8 +1,6 @@
 """Pages of the network as it is: an overview with a tile per station, and a page per station. They have no script, and texts
 of stations are escaped. `rds-monitor report` draws a recording with zoom."""
 
-from __future__ import annotations
-
 import base64
 import hashlib
 import os
@@ -14,11 +12,18 @@ from urllib.parse import quote
 from ..content.charset import printable
 from ..content.info import label
 from ..db.standing import Availability, bad_in, standing_of
-from ..rows.clock import utc_text
+from ..rows.clock import DAY, utc_text
+from ..rows.extent import replace
 
-DAY, MINUTE = 86400.0, 60.0
-# Minutes of the last day per point of a picture.
-STEP_MINUTES = 4
+STEP = 240.0  # seconds of the last day per point of a picture
+# The last alarms of a station, and the last changes in its last sessions.
+ALARMS = "SELECT alarm, begin_at, end_at, text FROM alarm_rows WHERE station = ? ORDER BY 2 DESC LIMIT 30"
+EVENTS = """
+SELECT start + place / rate AS at, item, value FROM recordings JOIN sessions ON recording = recordings.id
+  JOIN event_rows ON session = sessions.id JOIN facts ON facts.id = fact
+  WHERE sessions.id IN (SELECT sessions.id FROM recordings JOIN sessions ON recording = recordings.id
+    WHERE station = ? ORDER BY start + end_place / rate DESC LIMIT 4)
+  ORDER BY at DESC LIMIT 40"""
 STYLE = """\
 :root{color-scheme:light dark;--ink:#1b1f24;--paper:#fff;--soft:#667;--line:#d5d9e0;--bad:#b3261e;--warn:#9a6700;--good:#1a7f37}
 @media(prefers-color-scheme:dark){:root{--ink:#e6e9ee;--paper:#14171b;--soft:#9aa3ad;--line:#333a44;--bad:#ff8a80;--warn:#e3b341;--good:#56d364}}
@@ -37,9 +42,7 @@ td.text{white-space:pre-wrap;overflow-wrap:anywhere}"""
 HASH = base64.b64encode(hashlib.sha256(STYLE.encode()).digest()).decode()
 POLICY = f"default-src 'none'; style-src 'sha256-{HASH}'; base-uri 'none'; form-action 'none'"
 
-
-# By the names of stations.
-States = Dict[str, Dict[str, Any]]
+States = Dict[str, Dict[str, Any]]  # by the names of stations
 
 
 class Bar(NamedTuple):
@@ -70,8 +73,7 @@ def write_pages(
     data: sqlite3.Connection,
     refresh: int,
 ) -> None:
-    """Writes all pages, each by renaming a new file, and removes those of stations that the table had once. `lasting` are the alarms of
-    the watch."""
+    """Writes all pages, and removes those of stations that the table had once. `lasting` are the alarms of the watch."""
     os.makedirs(folder, exist_ok=True)
     for (name,) in data.execute("SELECT station FROM station_rows").fetchall():
         if name not in states and os.path.exists(os.path.join(folder, f"{name}.html")):
@@ -79,56 +81,25 @@ def write_pages(
     bars = {name: bars_of(data, name, utc) for name in states}
     replace(os.path.join(folder, "index.html"), overview(states, bars, utc, refresh, lasting))
     for name, state in states.items():
-        told = _alarms_of(data, name), _events_of(data, name)
-        page = station_page(name, state, bars[name], *told, utc, refresh, days.get(name))
+        alarms, events = (data.execute(query, (name,)).fetchall() for query in (ALARMS, EVENTS))
+        page = station_page(name, state, bars[name], alarms, events, utc, refresh, days.get(name))
         replace(os.path.join(folder, f"{name}.html"), page)
 
 
-def replace(path: str, text: str) -> None:
-    """Writes a file anew: a reader sees the old one or the new one."""
-    new = f"{path}.new"
-    with open(new, "w", encoding="utf-8", errors="backslashreplace") as file:
-        file.write(text)
-    os.replace(new, path)
-
-
-# ---- from the database
-
-
 def bars_of(data: sqlite3.Connection, station: str, utc: float) -> List[Bar]:
-    """The blocks of the last day by `STEP_MINUTES`."""
-    seconds = STEP_MINUTES * MINUTE
-    count = int(DAY / seconds)
-    first = int(utc / seconds) - count + 1
+    """The blocks of the last day by `STEP` seconds."""
+    count = int(DAY / STEP)
+    first = int(utc / STEP) - count + 1
     found = {
         int(slot): Bar(*blocks)
         for slot, *blocks in data.execute(
             "SELECT CAST((start + minute * minute_bits / rate) / ? AS INTEGER) AS slot, SUM(sent), SUM(valid), SUM(corrected)"
             " FROM recordings JOIN sessions ON recording = recordings.id JOIN minute_rows ON session = sessions.id"
             " WHERE station = ? AND start + end_place / rate > ? GROUP BY slot HAVING slot >= ?",
-            (seconds, station, first * seconds, first),
+            (STEP, station, first * STEP, first),
         )
     }
     return [found.get(first + at, Bar(0, 0, 0)) for at in range(count)]
-
-
-def _alarms_of(data: sqlite3.Connection, station: str) -> List[Tuple[Any, ...]]:
-    query = "SELECT alarm, begin_at, end_at, text FROM alarm_rows WHERE station = ? ORDER BY begin_at DESC LIMIT 30"
-    return data.execute(query, (station,)).fetchall()
-
-
-def _events_of(data: sqlite3.Connection, station: str) -> List[Tuple[Any, ...]]:
-    query = (
-        "SELECT start + place / rate AS at, item, value FROM recordings JOIN sessions ON recording = recordings.id"
-        " JOIN event_rows ON session = sessions.id JOIN facts ON facts.id = fact"
-        " WHERE sessions.id IN (SELECT sessions.id FROM recordings JOIN sessions ON recording = recordings.id"
-        "   WHERE station = ? ORDER BY start + end_place / rate DESC LIMIT 4)"
-        " ORDER BY at DESC LIMIT 40"
-    )
-    return data.execute(query, (station,)).fetchall()
-
-
-# ---- parts of pages
 
 
 def _page(title: str, body: str, refresh: int) -> str:
@@ -212,12 +183,6 @@ def _alarms(alarms: Mapping[str, str]) -> str:
     return "".join(f'<p class="alarm">{escape(name)}: {_text(text)}</p>' for name, text in alarms.items())
 
 
-def _day(day: Availability) -> str:
-    """The last day in hours."""
-    told = ", ".join(f"{name} {seconds / 3600:.2f} h" for name, seconds in day._asdict().items())
-    return f"<p>{told}</p>"
-
-
 def station_page(
     name: str,
     state: Dict[str, Any],
@@ -234,11 +199,12 @@ def station_page(
     contents = [(label(item), text) for item, text in state["held"].items()]
     told = [(alarm, _at(begin), _at(end), text) for alarm, begin, end, text in alarms]
     changes = [(_at(at), label(item), "none" if value is None else value) for at, item, value in events]
+    hours = [f"{word} {seconds / 3600:.2f} h" for word, seconds in (day._asdict() if day else {}).items()]
     parts = [
         f'<p><a href="index.html">RDS network</a></p><h1>{escape(name)}</h1>',
         f"<p>{standing_of(state).state}; {_percent(state)}{_signal(state)}; {session}; {state['starts']} starts of the receiver. {_time(utc)}</p>",
         f"{_alarms(state['alarms'])}\n<h2>The last 24 hours</h2>{picture(bars, 60, name)}",
-        _day(day) if day else "",
+        f"<p>{', '.join(hours)}</p>" if day else "",
         f"<h2>Contents</h2>{_table(('Item', 'Value'), contents)}",
         f"<h2>Alarms</h2>{_table(('Alarm', 'Begin', 'End', ''), told)}",
         f"<h2>Changes</h2>{_table(('Time', 'Item', 'Value'), changes)}",

@@ -1,24 +1,21 @@
 """A receiver's command as a process: started, read, restarted after growing pauses, stopped."""
 
-from __future__ import annotations
-
 import fcntl
 import os
 import signal
 import subprocess
-from typing import Any, Callable, Dict, List, Optional, Sequence, Set
+from contextlib import suppress
+from typing import Any, Callable, Dict, List, Optional, Sequence
 
 from ..rows.decoders import how_ended
 
 # Linux: a pipe of a megabyte holds a second of any signal while the disk is busy.
 F_SETPIPE_SZ, PIPE_BYTES = 1031, 1 << 20
-# Bytes that are read at once, so that one receiver cannot hold up the others.
-MOST = 1 << 22
+MOST = 1 << 22  # bytes that are read at once, so that one receiver cannot hold up the others
 FIRST_PAUSE, LONGEST_PAUSE, GOOD_RUN = 1.0, 60.0, 60.0
 # The status of a command that writes to a program that has left, also by way of a shell.
 BROKEN_PIPE = (-signal.SIGPIPE, 128 + signal.SIGPIPE)
-# Between SIGTERM and SIGKILL.
-GRACE = 2.0
+GRACE = 2.0  # between SIGTERM and SIGKILL
 
 
 class Process:
@@ -28,6 +25,7 @@ class Process:
 
     def __init__(self, words: Sequence[str], through: Sequence[str] = ()):
         self._it = self._last = _started(words, subprocess.DEVNULL)
+        self._all = {self._it}
         if through:
             assert self._it.stdout
             try:
@@ -35,6 +33,7 @@ class Process:
             except OSError:
                 self.kill()
                 raise
+            self._all.add(self._last)
             self._it.stdout.close()
         assert self._last.stdout
         self._out = self._last.stdout
@@ -65,10 +64,6 @@ class Process:
                     break
                 self._said[process.pid] = (self._said.get(process.pid, b"") + part)[-400:]
 
-    @property
-    def _all(self) -> "Set[subprocess.Popen[bytes]]":
-        return {self._it, self._last}
-
     def ended(self) -> Optional[str]:
         """The program may end the command by leaving: then it is the program that ended."""
         if any(process.poll() is None for process in self._all):
@@ -87,10 +82,8 @@ class Process:
     @staticmethod
     def _signal(process: "subprocess.Popen[bytes]", number: int) -> None:
         """To the whole group, also if the process that began it has ended."""
-        try:
+        with suppress(ProcessLookupError, PermissionError):
             os.killpg(process.pid, number)
-        except (ProcessLookupError, PermissionError):
-            pass
 
     def close(self) -> None:
         for process in self._all:
@@ -107,11 +100,8 @@ def _started(words: Sequence[str], given: Any) -> "subprocess.Popen[bytes]":
     )
     assert process.stdout and process.stderr
     os.set_blocking(process.stderr.fileno(), False)
-    try:
+    with suppress(OSError):  # over the limit of a user, or another system
         fcntl.fcntl(process.stdout.fileno(), F_SETPIPE_SZ, PIPE_BYTES)
-    except OSError:
-        # Over the limit of a user, or another system.
-        pass
     return process
 
 
@@ -132,8 +122,7 @@ class Keeper:
         self._killing: Optional[float] = None
         self._stopped = False
         self.starts = 0
-        # How the last run ended, once it has.
-        self.reason = ""
+        self.reason = ""  # how the last run ended, once it has
 
     @property
     def is_running(self) -> bool:
@@ -173,8 +162,7 @@ class Keeper:
             last = self._it.read()
             if last:
                 return last
-            # Others of its group may be left, such as programs of a pipeline.
-            self._it.kill()
+            self._it.kill()  # others of its group may be left, such as programs of a pipeline
             self._end(now, self.reason if self._killing is not None and self.reason else ended)
             return None
         if self._killing is not None:

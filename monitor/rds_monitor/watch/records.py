@@ -1,7 +1,5 @@
 """The watch's part of the database: each tick is one transaction, and each thing is stored once."""
 
-from __future__ import annotations
-
 import json
 import sqlite3
 from typing import Any, Dict, List, NamedTuple, Optional, Sequence, Tuple, Union
@@ -13,8 +11,7 @@ from .times import Timing
 
 # For another writer, such as `rds-monitor db`. Rows of the hours do not wait for the database.
 WAIT = 1.0
-# In place of a station's name: no station has it.
-WATCH = ""
+WATCH = ""  # in place of a station's name: no station has it
 
 
 class PartKey(NamedTuple):
@@ -33,16 +30,14 @@ class PartOpened(NamedTuple):
 
 
 class PartGrew(NamedTuple):
-    """The part's rows up to this byte of its file are told, and its bits up to this position. At its end `closed`, and of the
-    session the totals."""
+    """The rows up to this byte of the file, and the bits up to this position, are told. At the end `closed`; of the session totals."""
 
     key: PartKey
     end: int
     size: int
     closed: bool = False
     totals: Optional[Totals] = None
-    # Where an outage began that lasts.
-    quiet: Optional[int] = None
+    quiet: Optional[int] = None  # where an outage began that lasts
 
 
 class PartTold(NamedTuple):
@@ -123,8 +118,7 @@ class Records:
     """The open database."""
 
     def __init__(self, path: str):
-        # It makes the tables, or brings them up to date.
-        Store(path).close()
+        Store(path).close()  # it makes the tables, or brings them up to date
         self.database = sqlite3.connect(path, timeout=WAIT, isolation_level=None, check_same_thread=False)
         self.database.execute("PRAGMA foreign_keys = ON")
         self.database.execute("PRAGMA synchronous = FULL")
@@ -141,8 +135,7 @@ class Records:
                 for record in records:
                     self._write(record)
         except BaseException:
-            # Its notes are not there.
-            self.forget()
+            self.forget()  # its notes are not there
             raise
 
     def forget(self) -> None:
@@ -158,8 +151,6 @@ class Records:
             self._open(record)
         else:
             record.write(self.database)
-
-    # ---- parts of sessions
 
     def _open(self, opened: PartOpened) -> None:
         (name, number), data = opened.key, self.database
@@ -196,8 +187,7 @@ class Records:
 
     def state(self, station: str) -> Dict[str, Any]:
         """As it was seen last."""
-        query = "SELECT state FROM station_rows WHERE station = ?"
-        row = self.database.execute(query, (station,)).fetchone()
+        row = self.database.execute("SELECT state FROM station_rows WHERE station = ?", (station,)).fetchone()
         return dict(json.loads(row[0])) if row else {}
 
     def end_runs(self, utc: float) -> None:
@@ -206,8 +196,6 @@ class Records:
         end = f"MAX(begin_at, MIN(?, COALESCE({seen}, ?)))"
         query = f"UPDATE run_rows SET end_at = {end}, reason = 'the watch was killed' WHERE end_at IS NULL"
         self.database.execute(query, (utc, utc))
-
-    # ---- hours that were being written
 
     def open_parts(self) -> "List[OpenPart]":
         """The parts that no PartGrew closed, the oldest first."""

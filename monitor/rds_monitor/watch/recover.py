@@ -1,7 +1,5 @@
 """Recovery after a watch was killed: hours' files are made whole, and the database gets the rows that it lacks."""
 
-from __future__ import annotations
-
 import io
 import os
 from typing import Iterator, List, Optional, Tuple
@@ -22,25 +20,20 @@ from .times import Timing
 
 def recover(folder: str, stations: List[str], records: Records) -> List[str]:
     """Gives the paths of the hours that were looked at."""
-    adopt(folder, stations, records)
-    found = records.open_parts()
-    for entry in found:
-        replay(folder, entry, records)
-    return [part.path for part in found]
-
-
-def adopt(folder: str, stations: List[str], records: Records) -> None:
-    """The last hour of each station, if the database was not told of it before the end."""
     for station in stations:
+        # Its last hour, if the database was not told of it before the end.
         path = os.path.join("listings", station)
         whole = os.path.join(folder, path)
         entries = os.listdir(whole) if os.path.isdir(whole) else []
         names = sorted(entry for entry in entries if hour_of(entry) and entry.endswith(".csv"))
-        newest = sorted(names, key=lambda name: os.stat(os.path.join(whole, name)).st_mtime)[-2:]
-        for name in newest:
+        for name in sorted(names, key=lambda name: os.stat(os.path.join(whole, name)).st_mtime)[-2:]:
             known = os.path.join(path, name)
             if not records.knows(known, known + SUFFIX):
                 _open(folder, station, known, records)
+    found = records.open_parts()
+    for entry in found:
+        replay(folder, entry, records)
+    return [part.path for part in found]
 
 
 def _open(folder: str, station: str, path: str, records: Records) -> None:

@@ -1,13 +1,10 @@
 """Repair of an hour's file after a crash."""
 
-from __future__ import annotations
-
 import os
 
 from ..rows.parse import parse
 
-# No second of a listing has more bytes.
-TAIL = 1 << 16
+TAIL = 1 << 16  # no second of a listing has more bytes
 
 
 def make_whole(path: str) -> int:

@@ -1,7 +1,5 @@
 """The command `watch`: receivers of a network, day and night."""
 
-from __future__ import annotations
-
 import argparse
 import fcntl
 import os
@@ -23,12 +21,9 @@ from .table import StationTable, Table, read_table
 from .times import Times
 from .writer import Writer, WriterThread
 
-# How often receivers are read, and how often what they gave is decoded and written.
-POLL, TICK = 0.1, 0.5
-# At the end, for the receivers and for the disk.
-LEAVING = 5.0
-# Seconds of packed bits in the output buffer of a program, if that is a pipe.
-BURST = 4096 * 8 / RATE
+POLL, TICK = 0.1, 0.5  # how often receivers are read, and how often what they gave is decoded and written
+LEAVING = 5.0  # at the end, for the receivers and for the disk
+BURST = 4096 * 8 / RATE  # seconds of packed bits in the output buffer of a program, if that is a pipe
 
 
 def options_watch(parser: argparse.ArgumentParser) -> None:
@@ -150,14 +145,12 @@ class Service:
             fcntl.flock(lock, fcntl.LOCK_EX | fcntl.LOCK_NB)
         except OSError:
             raise Fault(f"another watch writes to {folder!r}") from None
-        # By it `check` knows since when the watch runs.
-        os.utime(lock)
+        os.utime(lock)  # by it `check` knows since when the watch runs
         return lock
 
     def run(self) -> int:
-        for number in (signal.SIGTERM, signal.SIGINT):
-            signal.signal(number, self._end)
-        signal.signal(signal.SIGHUP, self._reread)
+        for number in (signal.SIGTERM, signal.SIGINT, signal.SIGHUP):
+            signal.signal(number, self._hear)
         # A reader of standard error that leaves must not end the watch.
         signal.signal(signal.SIGPIPE, signal.SIG_IGN)
         self._thread.start()
@@ -170,11 +163,9 @@ class Service:
         finally:
             self._watch.kill()
 
-    def _end(self, *_: Any) -> None:
-        self._ending = True
-
-    def _reread(self, *_: Any) -> None:
-        self._rereading = True
+    def _hear(self, number: int, _: Any) -> None:
+        self._rereading |= number == signal.SIGHUP
+        self._ending |= number != signal.SIGHUP
 
     def _go_on(self) -> None:
         next_tick = time.monotonic()

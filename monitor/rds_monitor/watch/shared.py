@@ -1,10 +1,8 @@
 """A receiver that several stations share: one process of its command, and one that demodulates all of them."""
 
-from __future__ import annotations
-
 import re
 from collections import deque
-from typing import Any, Deque, Dict, List, Optional, Tuple
+from typing import Any, Deque, Dict, List, Optional, Tuple, Union
 
 from .. import ITSELF
 from .receiver import Keeper, Launch
@@ -27,14 +25,13 @@ class SharedReceiver:
 
     def __init__(self, table: ReceiverTable, speed: float, launch: Launch, now: float):
         self.table = table
-        through = demodulator(table)
-        self.keeper = Keeper(table.command, table.patience * speed, launch, now, through)
+        self.keeper = Keeper(table.command, table.patience * speed, launch, now, demodulator(table))
         self._taps: Dict[int, Tap] = {}
         self._rest = b""
         self._read_at: Optional[float] = None
         self.is_stopped = False
 
-    def tap(self, hertz: int, now: float) -> Tap:
+    def tap(self, hertz: int, now: float) -> "Tap":
         self._taps[hertz] = Tap(self, now)
         return self._taps[hertz]
 
@@ -47,11 +44,8 @@ class SharedReceiver:
             self._rest = b""
             for tap in self._taps.values():
                 tap.waiting.append(None)
-        elif data:
-            self._share(self._rest + data)
-
-    def _share(self, data: bytes) -> None:
-        *lines, self._rest = data.split(b"\n")
+            return
+        *lines, self._rest = (self._rest + data).split(b"\n")
         found: Dict[int, List[bytes]] = {}
         for line in lines:
             of = FREQUENCY.match(line)
@@ -112,3 +106,6 @@ class Tap:
 
     def kill(self) -> None:
         self._shared.keeper.kill()
+
+
+AnyKeeper = Union[Keeper, Tap]  # a station's: of a command of its own, or of one that it shares

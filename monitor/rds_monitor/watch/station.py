@@ -1,10 +1,8 @@
 """A station that is watched: its receiver, its session, its alarms and its state."""
 
-from __future__ import annotations
-
 import math
 from collections import deque
-from typing import Any, Deque, Dict, List, Optional, Tuple, Union
+from typing import Any, Deque, Dict, List, Optional, Tuple
 
 from ..content.charset import printable
 from ..db.parts import MINUTE_BITS, Told
@@ -14,35 +12,25 @@ from ..rows.items import MARGIN, Fault, Rules
 from .alarms import Alarms, Change, Watched
 from .bits import Packed, bit_source
 from .live import Append, LiveSession
-from .receiver import Keeper
 from .records import AlarmChanged, Record, RunBegan, RunEnded, StateSeen, WatchBegan
-from .shared import Tap
+from .shared import AnyKeeper
 from .table import StationTable
 from .times import BitPace, Timing
 from .writer import Say
 
-# Seconds between two lines of news of a station.
-NEWS = 10.0
-# Seconds by which bits may be ahead of time; then the receiver is restarted.
-AHEAD = 5.0
-# Seconds within which a dynamic PS shows all of its parts.
-NAMES_FOR = 60.0
+NEWS = 10.0  # seconds between two lines of news of a station
+AHEAD = 5.0  # seconds by which bits may be ahead of time; then the receiver is restarted
+NAMES_FOR = 60.0  # seconds within which a dynamic PS shows all of its parts
 
 
 class Station:
     """All times are pairs of the monotonic clock and UTC."""
 
     def __init__(
-        self,
-        table: StationTable,
-        keeper: Union[Keeper, Tap],
-        decoder: NewDecoder,
-        speed: float,
-        now: float,
-        say: Say,
+        self, table: StationTable, keeper: AnyKeeper, decoder: NewDecoder, speed: float, now: float, say: Say
     ):
         self.table, self._decoder, self._speed, self._say = table, decoder, speed, say
-        self.keeper = keeper
+        self.name, self.keeper = table.name, keeper
         self.alarms = Alarms(table, now, speed)
         self._session: Optional[LiveSession] = None
         self._bits: Optional[Packed] = None
@@ -52,8 +40,7 @@ class Station:
         self._last_read = 0.0
         self._last_valid = now
         self._whole_utc: Optional[float] = None
-        # By how much UTC is ahead of the monotonic clock.
-        self._ahead = 0.0
+        self._ahead = 0.0  # by how much UTC is ahead of the monotonic clock
         # Since when the receiver gives the bits of the next session, and whether those of the last one were ahead of time.
         self._began, self._was_ahead = 0.0, False
         self._names: Deque[Tuple[float, str]] = deque()
@@ -65,10 +52,6 @@ class Station:
         self.appends: List[Append] = []
         self.records: List[Record] = []
         self.changes: List[Change] = []
-
-    @property
-    def name(self) -> str:
-        return self.table.name
 
     def resume(self, lasting: Dict[str, Tuple[str, float]], counted: Dict[str, Any], away: float) -> None:
         """Goes on with what the last watch knew, which ended `away` seconds ago."""
@@ -83,10 +66,7 @@ class Station:
         self.table, self.keeper.patience = table, table.patience * self._speed
         self.alarms.set_table(table)
 
-    # ---- bytes
-
     def poll(self, steady: float, utc: float) -> None:
-        """Reads the bytes that came."""
         data, self._ahead = self.keeper.read(steady), utc - steady
         if self.keeper.starts != self._starts:
             self._starts = self.keeper.starts
@@ -106,18 +86,15 @@ class Station:
             self._counted += len(data)
             if self.table.form == "bits" and self._is_ahead(8 * self._counted, utc):
                 self._waiting.pop()
-                self._stop_ahead(steady, utc)
+                self._was_ahead = True
+                self.end_session(utc)
+                self.keeper.stop_run(steady, "gave bits faster than real time")
 
     def _is_ahead(self, place: int, utc: float) -> bool:
         """Bits up to this position had come at this time: whether none of a station come as fast."""
         assert self._session
         self._session.arrivals.take(place, utc)
         return self._session.arrivals.ahead > AHEAD * self._speed
-
-    def _stop_ahead(self, steady: float, utc: float) -> None:
-        self._was_ahead = True
-        self.end_session(utc)
-        self.keeper.stop_run(steady, "gave bits faster than real time")
 
     def _end_run(self, utc: float) -> None:
         reason = printable(self.keeper.reason)
@@ -171,8 +148,6 @@ class Station:
         elif self._session:
             self.end_session(utc - seconds, goes_on=True)
         self._began = utc
-
-    # ---- ticks
 
     def tick(self, steady: float, utc: float) -> None:
         """Decodes the bytes that came, and judges the station."""
@@ -245,8 +220,6 @@ class Station:
             counts = {name: getattr(minute.blocks, name) for name in ("sent", "valid", "corrected")}
             self._last_minute = {"utc": timing.utc(minute.blocks.begin), **counts}
             self._clock_s = minute.clock_s if minute.clock_s is not None else self._clock_s
-
-    # ---- its state
 
     def state(self, utc: float) -> Dict[str, Any]:
         """The state now, for pages, metrics and `check`."""

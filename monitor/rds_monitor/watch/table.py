@@ -1,7 +1,5 @@
 """The table of stations: its keys, their values and their defaults."""
 
-from __future__ import annotations
-
 import importlib
 import re
 from dataclasses import dataclass, field, fields, replace
@@ -15,8 +13,7 @@ from ..signal.receiver import RATES
 
 @dataclass(frozen=True)
 class AlarmLimits:
-    """When alarms begin: seconds, but sessions an hour for `flapping`, minutes for `errors`, and a number of groups for `ct`. None turns
-    one off."""
+    """When alarms begin: seconds, but sessions an hour for `flapping`, minutes for `errors`, and groups for `ct`. None turns one off."""
 
     silent: Optional[float] = 15
     no_rds: Optional[float] = 10
@@ -82,8 +79,7 @@ class StationTable:
     pi: Tuple[str, ...] = ()
     ps: Tuple[str, ...] = ()
     rt: Tuple[str, ...] = ()
-    # In kHz.
-    af: Tuple[int, ...] = ()
+    af: Tuple[int, ...] = ()  # in kHz
     patience: float = 10
     alarm_command: Tuple[str, ...] = ()
     alarms: AlarmLimits = field(default_factory=AlarmLimits)
@@ -113,22 +109,22 @@ class Table(NamedTuple):
     folder: Optional[str]
     keep: Keep
     stations: Tuple[StationTable, ...]
-    # that decodes, in place of librds
-    program: Optional[str] = None
+    program: Optional[str] = None  # that decodes, in place of librds
     receivers: Tuple[ReceiverTable, ...] = ()
     # Whether it says `soft = true`: soft decisions by default need no decoder that has them.
     needs_soft: bool = False
 
-    def hard(self) -> Table:
+    def hard(self) -> "Table":
         """The same without soft decisions."""
         receivers = {one.name: replace(one, soft=False) for one in self.receivers}
         hard = (replace(one, soft=False) for one in self.stations)
         return self._replace(stations=_received(hard, receivers), receivers=tuple(receivers.values()))
 
 
-# ---- values
-
 Judge = Callable[[Any, str], Any]
+Values = Dict[str, Any]
+Receivers = Dict[str, ReceiverTable]
+Stations = Tuple[StationTable, ...]
 
 
 def _rule(fits: Callable[[Any], bool], needed: str, made: Callable[[Any], Any]) -> Judge:
@@ -161,25 +157,17 @@ def _one_of(choices: Tuple[str, ...]) -> Judge:
 def _name(value: Any, of: str) -> str:
     """The name of a station, which is that of its folder too."""
     text: str = _text(value, of)
-    if (
-        "/" in text
-        or text[0] in ".-"
-        or text == "index"
-        or len(text.encode("utf-8", "replace")) > 100
-        or not text.isprintable()
-    ):
+    is_long = len(text.encode("utf-8", "replace")) > 100
+    if "/" in text or text[0] in ".-" or text == "index" or is_long or not text.isprintable():
         needed = "no '/', at most 100 bytes, no '.' or '-' first, and not 'index'"
         raise Fault(f"{of}: {text!r} cannot be the name of a folder: {needed}")
     return text
 
 
 def _words(value: Any, of: str) -> Tuple[str, ...]:
-    if (
-        isinstance(value, list)
-        and value
-        and all(isinstance(word, str) and "\0" not in word for word in value)
-    ):
-        return tuple(value)
+    words = value if isinstance(value, list) else []
+    if words and all(isinstance(word, str) and "\0" not in word for word in words):
+        return tuple(words)
     raise Fault(f'{of}: a list of words is needed, such as ["receiver", "-f", "98.1M"]: no shell reads it')
 
 
@@ -192,11 +180,7 @@ _patterns = _rule(
 )
 _truth = _rule(lambda value: isinstance(value, bool), "true or false is", bool)
 
-
-def _is_pi(value: Any) -> bool:
-    return isinstance(value, str) and re.fullmatch("[0-9A-Fa-f]{4}", value) is not None
-
-
+PI = re.compile("[0-9A-Fa-f]{4}")
 JUDGES: Dict[str, Judge] = {
     "name": _name,
     "command": _words,
@@ -207,13 +191,13 @@ JUDGES: Dict[str, Judge] = {
         f"{RATES[0]} to {RATES[-1]} samples per second are",
         int,
     ),
-    "receiver": _rule(_is_text, "a text is", str),
+    "receiver": _text,
     "equaliser": _truth,
     "soft": _truth,
     "offset": _rule(lambda value: _is_number(value) and -3e6 < value < 3e6, "a number of Hz is", float),
     "frequency": _number,
     "pi": _rule(
-        lambda value: value != [] and all(map(_is_pi, _texts(value))),
+        lambda value: value != [] and all(_is_text(pi) and PI.fullmatch(pi) for pi in _texts(value)),
         "four hexadecimal digits in quotes, or a list of such, are",
         lambda value: tuple(map(str.upper, _texts(value))),
     ),
@@ -236,11 +220,7 @@ RECEIVER_JUDGES: Dict[str, Judge] = {
     "centre": _number,
 }
 KEPT = {"compress": _truth}
-# Minutes and clock times that an alarm looks at, at most.
-MOST_LOOKED_AT = 60
-
-
-# ---- reading
+MOST_LOOKED_AT = 60  # minutes and clock times that an alarm looks at, at most
 
 
 def read_table(path: str) -> Table:
@@ -304,9 +284,9 @@ def _known(given: Any, names: Set[str], of: str) -> Dict[str, Any]:
     return given
 
 
-def _receivers(listed: Any) -> Dict[str, ReceiverTable]:
+def _receivers(listed: Any) -> Receivers:
     """By name, without their stations."""
-    found: Dict[str, ReceiverTable] = {}
+    found: Receivers = {}
     if not isinstance(listed, list):
         raise Fault("receivers are tables [[receiver]]")
     for number, given in enumerate(listed, 1):
@@ -324,11 +304,9 @@ def _receivers(listed: Any) -> Dict[str, ReceiverTable]:
     return found
 
 
-def _tuned(
-    stations: Tuple[StationTable, ...], receivers: Dict[str, ReceiverTable]
-) -> Tuple[StationTable, ...]:
+def _tuned(stations: Stations, receivers: Receivers) -> Stations:
     """The stations, whose receivers know all of theirs."""
-    whole: Dict[str, ReceiverTable] = {}
+    whole: Receivers = {}
     for name, receiver in receivers.items():
         own = [station for station in stations if station.receiver and station.receiver.name == name]
         if not own:
@@ -341,16 +319,11 @@ def _tuned(
     return _received(stations, whole)
 
 
-def _received(
-    stations: Iterable[StationTable], receivers: Dict[str, ReceiverTable]
-) -> Tuple[StationTable, ...]:
-    """With the receivers of these names."""
+def _received(stations: Iterable[StationTable], receivers: Receivers) -> Stations:
     return tuple(replace(one, receiver=one.receiver and receivers[one.receiver.name]) for one in stations)
 
 
-def _station(
-    given: Any, defaults: Dict[str, Any], number: int, receivers: Dict[str, ReceiverTable]
-) -> StationTable:
+def _station(given: Any, defaults: Dict[str, Any], number: int, receivers: Receivers) -> StationTable:
     if not isinstance(given, dict):
         raise Fault("a [[station]] is a table")
     name = given.get("name")
@@ -366,17 +339,14 @@ def _station(
     if "receiver" in found:
         found["receiver"] = receivers[found["receiver"]]
     elif "equaliser" not in found:
-        # Of a receiver's only station.
-        found["equaliser"] = found.get("form") == "iq"
+        found["equaliser"] = found.get("form") == "iq"  # of a receiver's only station
     found.setdefault("soft", found.get("form", "bits") != "bits")
     station = StationTable(**found, alarms=replace(AlarmLimits(), **limits))
     _judge_form(station, of)
     return station
 
 
-def _of_receiver(
-    given: Dict[str, Any], merged: Dict[str, Any], of: str, receivers: Dict[str, ReceiverTable]
-) -> Dict[str, Any]:
+def _of_receiver(given: Values, merged: Values, of: str, receivers: Receivers) -> Values:
     """The keys of a station of a shared receiver, which has the rest of them, whatever the defaults are."""
     receiver = receivers.get(merged["receiver"]) if isinstance(merged["receiver"], str) else None
     if receiver is None:

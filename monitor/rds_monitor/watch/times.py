@@ -1,7 +1,5 @@
 """Times: UTC counted by the monotonic clock, and when bits were sent, by when they came."""
 
-from __future__ import annotations
-
 import math
 import time
 from collections import deque
@@ -9,8 +7,7 @@ from typing import Deque, NamedTuple, Optional, Tuple
 
 from ..rows.clock import RATE
 
-# A step of the machine's clock, in seconds, that is not just its being kept right.
-STEP = 1.0
+STEP = 1.0  # a step of the machine's clock, in seconds, that is not just its being kept right
 
 
 class Now(NamedTuple):
@@ -74,23 +71,20 @@ class Arrivals:
 
     A bit cannot come before it was sent, so the read that came with the least delay counts: of the first second for the
     start, of the last ten for its corrections. At a cut the timing goes on without a jump, at a rate that makes up for
-    the difference within an hour; only bits that come later for good make the time jump, and then forward.
-    """
+    the difference within an hour; only bits that come later for good make the time jump, and then forward."""
 
     SETTLING, WINDOW, LATE, NOISE, HORIZON = 1.0, 10.0, 0.5, 0.05, 3600.0
     MOST = 1e-3  # by which a rate is off
     # Seconds of bits that a receiver may have had before it was started, and over which their pace is measured.
     BACKLOG, PACE, PACE_LEAST = 60.0, 30.0, 10.0
-    # By how many seconds of bits a read is off a straight line if the pace changed at it.
-    KNEE = 0.02
+    KNEE = 0.02  # by how many seconds of bits a read is off a straight line if the pace changed at it
 
     def __init__(self, speed: float = 1.0, began: float = -math.inf):
         self.timing: Optional[Timing] = None
         self._speed, self._began = speed, began
         self._first = self._since = 0.0
         self._before, self._settled = 0.0, False
-        # Of each second, and since when.
-        self._delays: Deque[Tuple[int, float]] = deque()
+        self._delays: Deque[Tuple[int, float]] = deque()  # of each second, and since when
         self._noted = 0
         self.reads: Deque[Tuple[float, int]] = deque()
 
@@ -132,8 +126,7 @@ class Arrivals:
         return max(0.0, -self._delays[-1][1]) if self._delays else 0.0
 
     def pace(self) -> Optional[BitPace]:
-        """That of the last bits, if they tell. It changed at the read that is furthest from the line through the first and the last
-        one."""
+        """That of the last bits, if they tell. It changed at the read that is furthest from the line through the first and the last one."""
         if len(self.reads) < 2 or self.reads[-1][0] - self.reads[0][0] < self.PACE_LEAST * self._speed:
             return None
         (first, begin), (last, end) = self.reads[0], self.reads[-1]

@@ -1,7 +1,5 @@
 """The verdict on a station, and the limits by which it is judged."""
 
-from __future__ import annotations
-
 import re
 from typing import List, NamedTuple, Optional, Sequence
 
@@ -19,8 +17,7 @@ class Limits(NamedTuple):
 
 
 class Seen(NamedTuple):
-    """Per cent of blocks, seconds since the last whole group, the last PI, and the PS of the last minute. Contents that nobody
-    asked for are shown if `shows`."""
+    """Per cent of blocks, seconds since the last whole group, the PI, and the PS of a minute. `shows` shows contents nobody asked for."""
 
     valid: Optional[float]
     corrected: Optional[float]

@@ -1,20 +1,18 @@
 """Writes rows of hours, the database, pages and metrics to disk, in a thread of its own. If a write fails, all waits for the next try."""
 
-from __future__ import annotations
-
 import os
 import sqlite3
 import threading
 import traceback
 from collections import deque
-from typing import Callable, Deque, Dict, Iterable, Iterator, List, NamedTuple, Optional, Sequence
+from contextlib import suppress
+from typing import Callable, Deque, Dict, Iterable, List, NamedTuple, Optional, Sequence
 
 from .live import Append
 from .records import AlarmChanged, PartOpened, Record, Records, StateSeen
 
 RETRY = 1.0
-# Of records that wait for the database; the oldest are given up first.
-MOST_RECORDS = 500000
+MOST_RECORDS = 500000  # of records that wait for the database; the oldest are given up first
 
 Say = Callable[[str, str], None]
 
@@ -43,8 +41,7 @@ class HourWriter:
 
     def _file(self, path: str) -> int:
         if path in self._open and not os.fstat(self._open[path]).st_nlink:
-            # Somebody deleted it: the rows to come are in a new one.
-            self.close(path)
+            self.close(path)  # somebody deleted it: the rows to come are in a new one
         if path not in self._open:
             whole = os.path.join(self._folder, path)
             parent = os.path.dirname(whole)
@@ -84,8 +81,7 @@ class Writer:
         self._unsynced: List[str] = []
         self._waiting: List[Record] = []
         self._after: List[Callable[[Records], None]] = []
-        # What comes while rows wait.
-        self.news: Deque[Record] = deque()
+        self.news: Deque[Record] = deque()  # what comes while rows wait
         self.fault: Optional[str] = None
 
     @property
@@ -100,7 +96,9 @@ class Writer:
 
     def work(self) -> bool:
         if self.news:
-            self._waiting = last_states([*self._waiting, *self._taken_news()])
+            while self.news:
+                self._waiting.append(self.news.popleft())
+            self._waiting = last_states(self._waiting)
         try:
             self._write_rows()
             self._write_records()
@@ -116,10 +114,6 @@ class Writer:
             self._say("notice", "rows are written again")
             self.fault = None
         return True
-
-    def _taken_news(self) -> Iterator[Record]:
-        while self.news:
-            yield self.news.popleft()
 
     def _write_rows(self) -> None:
         while self._rows:
@@ -140,11 +134,9 @@ class Writer:
     def _write_news(self) -> None:
         """Alarms and states, which tell of no row, if at least the database can be written."""
         known = [(isinstance(record, (AlarmChanged, StateSeen)), record) for record in self._waiting]
-        try:
+        with suppress(sqlite3.Error):
             self._records.write([record for is_news, record in known if is_news])
             self._waiting = [record for is_news, record in known if not is_news]
-        except sqlite3.Error:
-            pass
 
     def _sync(self) -> None:
         while self._unsynced:
