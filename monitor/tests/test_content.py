@@ -511,6 +511,15 @@ def test_a_text_without_an_end_is_not_cut_where_groups_are_lost(segments: Sequen
     assert sent.told([event for k in range(len(rows)) for event in decoder.feed(rows[k : k + 1])], "rt") == []
 
 
+def test_signs_after_an_end_count_since_the_last_cut() -> None:
+    """A text ends early once, and signs after its end come. Then the end is in doubt, and is none: they belong to the next text."""
+    first, longer = text(b"ABCDEF\r"), text(b"ABCDEFGHIJK\r")
+    doubted = text(b"ABCDEFxx")[1]
+    groups = [*(20 * first), first[0], *first, longer[2], first[0], doubted, *longer[:2], longer[0]]
+    wrong = [(len(groups) - 4, sent.Damage(4, sent.CORRECTED))]
+    assert told(events_of(groups, wrong), "rt") == ["ABCDEF", "ABCDEFGHIJK"]
+
+
 # ---- lists of frequencies that change
 
 
