@@ -81,6 +81,48 @@ class Brief(Process):
     close = kill
 
 
+class Idle(Process):
+    """A command that goes on without a byte, and notes what it is sent."""
+
+    def __init__(self, is_open: bool) -> None:
+        self._is_open, self.sent = is_open, list[str]()
+
+    def read(self) -> Optional[bytes]:
+        return b"" if self._is_open else None
+
+    def ended(self) -> Optional[str]:
+        return None
+
+    def terminate(self) -> None:
+        self.sent.append("SIGTERM")
+
+    def kill(self) -> None:
+        self.sent.append("SIGKILL")
+
+
+@pytest.mark.parametrize(
+    "is_open, patience, allowed, reason",
+    [
+        (True, 10.5, 10.5, "gave no byte for 10.5 s"),
+        (False, 10.5, 2, "closed its output"),
+        (False, 1.5, 1.5, "closed its output"),
+    ],
+)
+def test_when_a_command_is_ended(is_open: bool, patience: float, allowed: float, reason: str) -> None:
+    """Counted from its start. It has two seconds to end by itself."""
+    it = Idle(is_open)
+    keeper = Keeper(["it"], patience, lambda words, through: it, 0.0)
+    keeper.read(100.0)
+    for moment, sent in (
+        (0.0, []),
+        (0.125, ["SIGTERM"]),
+        (2.125, ["SIGTERM"]),
+        (2.25, ["SIGTERM", "SIGKILL"]),
+    ):
+        assert keeper.read(100 + allowed + moment) == b""
+        assert (it.sent, keeper.reason) == (sent, reason if sent else "")
+
+
 @pytest.mark.parametrize("lasted, left, pause", [(59.9, [b"x"], 60.0), (60.0, [b"x"], 1.0), (60.0, [], 60.0)])
 def test_pauses_grow(lasted: float, left: List[bytes], pause: float) -> None:
     """After a run of a minute in which a byte came, if only at its begin, the next one is a second again."""
