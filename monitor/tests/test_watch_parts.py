@@ -8,8 +8,8 @@ import sqlite3
 import time
 from collections import deque
 from pathlib import Path
-from types import BuiltinFunctionType, FunctionType, ModuleType
-from typing import Any, List, Optional, Sequence
+from types import BuiltinFunctionType, FunctionType, ModuleType, SimpleNamespace
+from typing import Any, List, Optional, Sequence, cast
 
 import pytest
 
@@ -152,8 +152,18 @@ def test_the_last_batch_of_a_writer(tmp_path: Path) -> None:
     thread._ending = True
     thread.start()
     thread.end(10.0)
-    assert (tmp_path / "listings" / "Alpha" / "it.csv").read_bytes() == b"row\n" and not thread.is_alive()
+    path = tmp_path / "listings" / "Alpha" / "it.csv"
+    assert path.read_bytes() == b"row\n" and not thread.is_alive()
+    assert path.stat().st_mode & 0o133 == 0
     records.close()
+
+
+def test_a_write_is_tried_again_each_second(monkeypatch: pytest.MonkeyPatch) -> None:
+    waits, ends = list[float](), [False, False, True]
+    thread = WriterThread(cast(Any, SimpleNamespace(work=lambda: ends.pop(0), is_idle=False)))
+    monkeypatch.setattr(writer.threading, "Event", lambda: SimpleNamespace(wait=waits.append))
+    thread._work()
+    assert waits == [1.0, 1.0] and ends == []
 
 
 @pytest.mark.parametrize(
