@@ -21,7 +21,7 @@ from rds_monitor.db.parts import Contents, Part
 from rds_monitor.db.standing import Availability
 from rds_monitor.rows.clock import Clock
 from rds_monitor.rows.items import Fault
-from rds_monitor.watch import asked, loop, records, writer
+from rds_monitor.watch import asked, loop, records, service, writer
 from rds_monitor.watch.live import Append
 from rds_monitor.watch.loop import Hooks
 from rds_monitor.watch.receiver import Keeper, Process
@@ -281,6 +281,29 @@ def test_nothing_grows(tmp_path: Path, grows: bool, monkeypatch: pytest.MonkeyPa
         most.append(entries(one.watch, one))
     assert 200 < max(most) < 2000 and (max(most[12:]) > max(most[:12]) + 100) == grows
     one.end()
+
+
+def test_the_pace_of_a_watch(monkeypatch: pytest.MonkeyPatch) -> None:
+    """It polls ten times a second, here each eighth, and ticks each half; of a tick that takes long no other one is made up for."""
+    now, slept, polls, ticks = [100.0], set[float](), list[float](), list[float]()
+    one: Any = object.__new__(service.Service)
+
+    def tick() -> None:
+        ticks.append(now[0])
+        now[0] += 2 if now[0] == 101.5 else 0
+
+    def sleep(seconds: float) -> None:
+        slept.add(seconds)
+        now[0] += 0.125
+        one._ending = now[0] >= 104
+
+    monkeypatch.setattr(service, "time", SimpleNamespace(sleep=sleep, monotonic=lambda: now[0]))
+    one._ending = one._rereading = False
+    one._thread = SimpleNamespace(crash=None)
+    one._watch = SimpleNamespace(poll=lambda: polls.append(now[0]), tick=tick)
+    one._go_on()
+    assert ticks == [100.125, 100.5, 101.0, 101.5, 103.625, 104.0] and slept == {0.1}
+    assert polls == [100 + n / 8 for n in (*range(1, 13), *range(29, 33))]
 
 
 def test_records_that_are_too_many(tmp_path: Path, monkeypatch: pytest.MonkeyPatch) -> None:
