@@ -453,10 +453,22 @@ PAXO = ["PAXO 318"]
 
 @pytest.mark.parametrize("turns, names", [(4, PAXO), (5, [])])
 def test_for_how_many_turns_a_pair_of_a_name_counts(turns: int, names: List[str]) -> None:
-    """The first of them has one pair, and the last one the others."""
+    """The first of them has one pair, and the last one the others. It begins a minute after sync."""
     groups = (turns + 1) * name(b"PAXO 318")
     gone = {*range(1, len(groups))} - {4 * turns - k for k in (1, 2, 3)}
-    assert told(events_of(groups, without(groups, sorted(gone))), "ps") == names
+    rows = sent.rows_of(groups, without(groups, sorted(gone)))
+    rows["place"] += numpy.uint64(71250)
+    assert told(Decoder().feed(rows), "ps") == names
+
+
+@pytest.mark.parametrize("turns, names", [(4, ["PAXO 318"]), (5, ["BAXO 318"])])
+def test_for_how_many_turns_a_pair_of_a_name_contradicts_another(turns: int, names: List[str]) -> None:
+    """The others came a turn before another first one: they belong to the name of the old one, or of the new one."""
+    groups = turns * name(b"PAXO 318") + 2 * name(b"BAXO 318")
+    gone = {*range(1, len(groups))} - {4 * turns - k for k in range(4)}
+    rows = sent.rows_of(groups, without(groups, sorted(gone)))
+    rows["place"] += numpy.uint64(71250)
+    assert told(Decoder().feed(rows), "ps") == names
 
 
 @pytest.mark.parametrize("bits, texts", [(60 * 1187.5, ["A text"]), (60 * 1187.5 + 1, [])])
