@@ -567,8 +567,11 @@ LISTS = {
 
 @pytest.mark.parametrize("title", LISTS)
 def test_a_list_that_changes(title: str) -> None:
+    """Of the station, or by method A of another network."""
     pairs, found = LISTS[title]
     assert lists(pairs) == found
+    if "method A" in title:
+        assert values([eon(4, pair) for pair in pairs], "eon:D312.af") == found
 
 
 def test_the_same_frequencies_in_another_order_are_the_same_list() -> None:
