@@ -78,7 +78,9 @@ def test_the_last_bits_of_a_session() -> None:
     """Of a signal the receiver gives them once it has ended."""
     one, said = station(*FORMS["mpx s16"], "soft = false"), []
     data, source = stored(mpx(encode(GROUPS), 171000, snr=40), "s16"), bit_source(one)
-    bits = source.take(data) + source.finish()
+    first = source.take(data)
+    assert source.delay == pytest.approx(len(data) / 2 / 171000 - 8 * len(first) / 1187.5)
+    bits = first + source.finish()
     keeper: Any = SimpleNamespace(read=lambda steady: data, starts=1, is_stopping=False)
     watched = Station(one, keeper, decoder_of()[0], 1000.0, 0.0, lambda *words: said.append(words))
     watched.poll(0.0, START)
