@@ -88,6 +88,22 @@ def test_the_last_bits_of_a_session() -> None:
     assert b"".join(append.data for append in watched.appends) == rds("list", data=bits) and said == []
 
 
+@pytest.mark.parametrize("steps", [False, True])
+def test_a_fault_of_the_last_bits_is_told(steps: bool) -> None:
+    """Where a session ends, or the machine's clock is set."""
+
+    def fail(data: bytes) -> bytes:
+        raise Fault("no more")
+
+    said: List[Tuple[str, ...]] = []
+    keeper: Any = SimpleNamespace(read=lambda steady: bytes(400), starts=1, is_stopping=False)
+    watched = Station(station(), keeper, decoder_of()[0], 1.0, 0.0, lambda *words: said.append(words))
+    watched.poll(0.0, START)
+    setattr(watched, "_bits", SimpleNamespace(take=fail))
+    watched.step(5.0, START + 5) if steps else watched.end_session(START + 5)
+    assert said == [("warning", f"{watched.name}: no more")]
+
+
 def test_multipath_is_undone_if_the_table_says_so() -> None:
     """A second path of 30 µs; of a receiver's only station it is undone by default."""
     signal = iq(mpx(encode(GROUPS[:30]), 256000, snr=40), 256000, paths=[(30, 0.7, 90, 0)], cnr=30)
