@@ -19,7 +19,7 @@ from conftest import COMMAND, encode, monitor, ran, rds
 from rds_monitor import ITSELF, __version__
 from rds_monitor.rows.items import LOST
 from made import group_row, listing, lock, run, split
-from rds_monitor.watch.check import _tail
+from rds_monitor.watch.check import Reception, _tail
 from rds_monitor.watch.verdict import Limits, Seen, Verdict
 
 VALID = "99.99 % of the blocks valid, last valid group 0.007 s ago"
@@ -96,6 +96,16 @@ def test_limits(valid: float, age: float, status: int) -> None:
     verdict = Verdict()
     verdict.judge(Seen(valid, 0.0, age, None, []), Limits(90, 50, 10, 60), None, [])
     assert verdict.status == status
+
+
+@pytest.mark.parametrize("seconds, pi", [(9.9, 0xD393), (10.1, None)])
+def test_a_programme_has_three_groups(seconds: float, pi: Any) -> None:
+    """With ten seconds at most between two of them."""
+    reception = Reception(1187.5, False)
+    places = (0, 104, 208 + int(seconds * 1187.5))
+    reception.add(numpy.concatenate([group_row(place, (0xD393, 0x0548, 0xE0CD, 0x5041)) for place in places]))
+    reception.close()
+    assert reception.pi == pi
 
 
 def test_what_is_told_of_the_last_minute() -> None:

@@ -453,10 +453,22 @@ PAXO = ["PAXO 318"]
 
 @pytest.mark.parametrize("turns, names", [(4, PAXO), (5, [])])
 def test_for_how_many_turns_a_pair_of_a_name_counts(turns: int, names: List[str]) -> None:
-    """The first of them has one pair, and the last one the others."""
+    """The first of them has one pair, and the last one the others. It begins a minute after sync."""
     groups = (turns + 1) * name(b"PAXO 318")
     gone = {*range(1, len(groups))} - {4 * turns - k for k in (1, 2, 3)}
-    assert told(events_of(groups, without(groups, sorted(gone))), "ps") == names
+    rows = sent.rows_of(groups, without(groups, sorted(gone)))
+    rows["place"] += numpy.uint64(71250)
+    assert told(Decoder().feed(rows), "ps") == names
+
+
+@pytest.mark.parametrize("turns, names", [(4, ["PAXO 318"]), (5, ["BAXO 318"])])
+def test_for_how_many_turns_a_pair_of_a_name_contradicts_another(turns: int, names: List[str]) -> None:
+    """The others came a turn before another first one: they belong to the name of the old one, or of the new one."""
+    groups = turns * name(b"PAXO 318") + 2 * name(b"BAXO 318")
+    gone = {*range(1, len(groups))} - {4 * turns - k for k in range(4)}
+    rows = sent.rows_of(groups, without(groups, sorted(gone)))
+    rows["place"] += numpy.uint64(71250)
+    assert told(Decoder().feed(rows), "ps") == names
 
 
 @pytest.mark.parametrize("bits, texts", [(60 * 1187.5, ["A text"]), (60 * 1187.5 + 1, [])])
@@ -511,6 +523,15 @@ def test_a_text_without_an_end_is_not_cut_where_groups_are_lost(segments: Sequen
     assert sent.told([event for k in range(len(rows)) for event in decoder.feed(rows[k : k + 1])], "rt") == []
 
 
+def test_signs_after_an_end_count_since_the_last_cut() -> None:
+    """A text ends early once, and signs after its end come. Then the end is in doubt, and is none: they belong to the next text."""
+    first, longer = text(b"ABCDEF\r"), text(b"ABCDEFGHIJK\r")
+    doubted = text(b"ABCDEFxx")[1]
+    groups = [*(20 * first), first[0], *first, longer[2], first[0], doubted, *longer[:2], longer[0]]
+    wrong = [(len(groups) - 4, sent.Damage(4, sent.CORRECTED))]
+    assert told(events_of(groups, wrong), "rt") == ["ABCDEF", "ABCDEFGHIJK"]
+
+
 # ---- lists of frequencies that change
 
 
@@ -546,8 +567,11 @@ LISTS = {
 
 @pytest.mark.parametrize("title", LISTS)
 def test_a_list_that_changes(title: str) -> None:
+    """Of the station, or by method A of another network."""
     pairs, found = LISTS[title]
     assert lists(pairs) == found
+    if "method A" in title:
+        assert values([eon(4, pair) for pair in pairs], "eon:D312.af") == found
 
 
 def test_the_same_frequencies_in_another_order_are_the_same_list() -> None:

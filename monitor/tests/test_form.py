@@ -20,7 +20,7 @@ from modulator import Array, iq, mpx, stored, wav, words
 
 from rds_monitor.signal import form
 from rds_monitor.signal.pack import READERS, Conversion, bits_of, packed_of
-from rds_monitor.signal.rates import likely_rate
+from rds_monitor.signal.rates import BLOCK, _by_pilot, likely_rate
 from rds_monitor.signal.samples import FORMS as FORMS_OF_SAMPLES, numbers
 
 STATION_BYTES = STATION.read_bytes()
@@ -190,6 +190,18 @@ def test_the_largest_number_of_a_form_is_its_full_scale() -> None:
     for name in ("u8", "s16", "s24", "s32"):
         (largest,) = numbers(stored(numpy.array([3.0]), name), name)
         assert 0.99 < largest / FORMS_OF_SAMPLES[name][1] <= 1, name
+
+
+@pytest.mark.parametrize("apart", [-9, -8, 8, 9])
+def test_rates_by_the_strongest_lines(apart: int) -> None:
+    """Of two, to 10 Hz, by tops between the bins. What is within eight bins of the first one is no other."""
+    power, places = numpy.full(BLOCK // 2 + 1, 1e-12), numpy.arange(BLOCK // 2 + 1)
+    for rate, level in ((213370, 0.09), (301230, 0.05)):
+        power += level * numpy.exp(-((places - 19000 / rate * BLOCK) ** 2))
+    beside = round(19000 / 213370 * BLOCK) + apart
+    power[beside] = 0.07
+    second = 301230 if abs(apart) == 8 else round(1900 / beside * BLOCK) * 10
+    assert _by_pilot(power) == [213370, second]
 
 
 def test_two_blocks_of_samples_tell_the_rate(signal: Array) -> None:

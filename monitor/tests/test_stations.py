@@ -66,6 +66,8 @@ def test_stations_that_are_found(capture: bytes, tmp_path: Path) -> None:
     # In integers a third of an amplitude of 1.
     assert levels == {97800000: pytest.approx(-24.5, abs=1), 98100000: pytest.approx(-9.5, abs=1)}
     assert all(line["bits"] >= 23 * 104 - 200 and line["snr_db"] > 15 for line in report.values())
+    for frequency, line in report.items():
+        assert (tmp_path / "bits" / f"{frequency / 1e6:g}M.bin").stat().st_size == -(-line["bits"] // 8)
 
 
 def test_named_stations_from_a_pipe(capture: bytes) -> None:

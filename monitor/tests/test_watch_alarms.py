@@ -79,13 +79,15 @@ def test_hysteresis() -> None:
 
 
 def test_a_silent_receiver() -> None:
-    judged = Judged().seconds(20).seconds(13, quiet=3, age=3).seconds(3, quiet=16, age=16).seconds(10)
+    judged = Judged().seconds(20).seconds(13, quiet=3, age=4).seconds(3, quiet=16, age=17).seconds(10)
     assert judged.found == [
-        ("no_rds", True, 28.0),
+        ("no_rds", True, 27.0),
         ("silent", True, 33.0),
         ("silent", False, 42.0),
         ("no_rds", False, 42.0),
     ]
+    block, byte = "no valid block for 10 s", "no byte for 15 s"
+    assert judged.texts == [block, byte, f"{byte}; it lasted 9 s", f"{block}; it lasted 15 s"]
 
 
 def test_no_rds() -> None:
@@ -107,6 +109,7 @@ def test_block_errors() -> None:
     judged = Judged().minutes(50, 50, 10, 40, 40, 31, 29, 29, 29, 23, 23, 31, 23, 23, 23)
     assert [(name, begins) for name, begins, _ in judged.found] == [("errors", True), ("errors", False)]
     assert judged.found[0][2] == 6 and judged.found[1][2] == 15
+    assert judged.texts[0] == "37.0 % of the blocks bad in 3 min"
     assert Judged("[station.alarms]", "errors = false").minutes(*[99.0] * 9).found == []
     assert Judged().minutes(*[30.0] * 9).found == []
     assert Judged("[station.alarms]", "errors = 60").minutes(*[99.0] * 60).found == [("errors", True, 60.0)]

@@ -78,12 +78,30 @@ def test_the_last_bits_of_a_session() -> None:
     """Of a signal the receiver gives them once it has ended."""
     one, said = station(*FORMS["mpx s16"], "soft = false"), []
     data, source = stored(mpx(encode(GROUPS), 171000, snr=40), "s16"), bit_source(one)
-    bits = source.take(data) + source.finish()
+    first = source.take(data)
+    assert source.delay == pytest.approx(len(data) / 2 / 171000 - 8 * len(first) / 1187.5)
+    bits = first + source.finish()
     keeper: Any = SimpleNamespace(read=lambda steady: data, starts=1, is_stopping=False)
     watched = Station(one, keeper, decoder_of()[0], 1000.0, 0.0, lambda *words: said.append(words))
     watched.poll(0.0, START)
     watched.end_session(START + 10)
     assert b"".join(append.data for append in watched.appends) == rds("list", data=bits) and said == []
+
+
+@pytest.mark.parametrize("steps", [False, True])
+def test_a_fault_of_the_last_bits_is_told(steps: bool) -> None:
+    """Where a session ends, or the machine's clock is set."""
+
+    def fail(data: bytes) -> bytes:
+        raise Fault("no more")
+
+    said: List[Tuple[str, ...]] = []
+    keeper: Any = SimpleNamespace(read=lambda steady: bytes(400), starts=1, is_stopping=False)
+    watched = Station(station(), keeper, decoder_of()[0], 1.0, 0.0, lambda *words: said.append(words))
+    watched.poll(0.0, START)
+    setattr(watched, "_bits", SimpleNamespace(take=fail))
+    watched.step(5.0, START + 5) if steps else watched.end_session(START + 5)
+    assert said == [("warning", f"{watched.name}: no more")]
 
 
 def test_multipath_is_undone_if_the_table_says_so() -> None:

@@ -97,7 +97,7 @@ def script(folder: Path, text: str) -> str:
     "text, reason",
     [
         ("exec sleep 60", "did nothing for 0.5 s"),
-        ("read -r x; echo nonsense; cat > /dev/null", "writes no listing: b'nonsense'"),
+        ("read -r x; printf '%081d\\n' 1; cat > /dev/null", "writes no listing: b'0{80}'$"),
         ("echo of no use >&2; exec >&-; sleep 0.3; exit 3", "ended with status 3: of no use"),
         ("exec /none/rds", "ended with status 12[67]: "),
     ],

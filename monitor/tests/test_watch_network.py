@@ -423,7 +423,9 @@ def test_a_full_disk(tmp_path: Path, monkeypatch: pytest.MonkeyPatch) -> None:
     same_as_sent(net, tmp_path)
     ((name, begin, end),) = alarms(net, "")
     assert name == "disk" and 24 < begin < 28 and 79 < end < 83
-    assert any("No space left" in line for line in net.said)
+    told = [line for line in net.said if re.match("error|notice: rows", line)]
+    fault = "error: rows cannot be written: No space left on device; they wait"
+    assert told == [fault, "notice: rows are written again"]
 
 
 def test_a_database_that_is_locked_delays_no_row(tmp_path: Path, monkeypatch: pytest.MonkeyPatch) -> None:

@@ -8,8 +8,8 @@ import sqlite3
 import time
 from collections import deque
 from pathlib import Path
-from types import BuiltinFunctionType, FunctionType, ModuleType
-from typing import Any, List, Optional, Sequence
+from types import BuiltinFunctionType, FunctionType, ModuleType, SimpleNamespace
+from typing import Any, List, Optional, Sequence, cast
 
 import pytest
 
@@ -21,7 +21,7 @@ from rds_monitor.db.parts import Contents, Part
 from rds_monitor.db.standing import Availability
 from rds_monitor.rows.clock import Clock
 from rds_monitor.rows.items import Fault
-from rds_monitor.watch import asked, loop, records, writer
+from rds_monitor.watch import asked, loop, records, service, writer
 from rds_monitor.watch.live import Append
 from rds_monitor.watch.loop import Hooks
 from rds_monitor.watch.receiver import Keeper, Process
@@ -81,6 +81,48 @@ class Brief(Process):
     close = kill
 
 
+class Idle(Process):
+    """A command that goes on without a byte, and notes what it is sent."""
+
+    def __init__(self, is_open: bool) -> None:
+        self._is_open, self.sent = is_open, list[str]()
+
+    def read(self) -> Optional[bytes]:
+        return b"" if self._is_open else None
+
+    def ended(self) -> Optional[str]:
+        return None
+
+    def terminate(self) -> None:
+        self.sent.append("SIGTERM")
+
+    def kill(self) -> None:
+        self.sent.append("SIGKILL")
+
+
+@pytest.mark.parametrize(
+    "is_open, patience, allowed, reason",
+    [
+        (True, 10.5, 10.5, "gave no byte for 10.5 s"),
+        (False, 10.5, 2, "closed its output"),
+        (False, 1.5, 1.5, "closed its output"),
+    ],
+)
+def test_when_a_command_is_ended(is_open: bool, patience: float, allowed: float, reason: str) -> None:
+    """Counted from its start. It has two seconds to end by itself."""
+    it = Idle(is_open)
+    keeper = Keeper(["it"], patience, lambda words, through: it, 0.0)
+    keeper.read(100.0)
+    for moment, sent in (
+        (0.0, []),
+        (0.125, ["SIGTERM"]),
+        (2.125, ["SIGTERM"]),
+        (2.25, ["SIGTERM", "SIGKILL"]),
+    ):
+        assert keeper.read(100 + allowed + moment) == b""
+        assert (it.sent, keeper.reason) == (sent, reason if sent else "")
+
+
 @pytest.mark.parametrize("lasted, left, pause", [(59.9, [b"x"], 60.0), (60.0, [b"x"], 1.0), (60.0, [], 60.0)])
 def test_pauses_grow(lasted: float, left: List[bytes], pause: float) -> None:
     """After a run of a minute in which a byte came, if only at its begin, the next one is a second again."""
@@ -110,8 +152,18 @@ def test_the_last_batch_of_a_writer(tmp_path: Path) -> None:
     thread._ending = True
     thread.start()
     thread.end(10.0)
-    assert (tmp_path / "listings" / "Alpha" / "it.csv").read_bytes() == b"row\n" and not thread.is_alive()
+    path = tmp_path / "listings" / "Alpha" / "it.csv"
+    assert path.read_bytes() == b"row\n" and not thread.is_alive()
+    assert path.stat().st_mode & 0o133 == 0
     records.close()
+
+
+def test_a_write_is_tried_again_each_second(monkeypatch: pytest.MonkeyPatch) -> None:
+    waits, ends = list[float](), [False, False, True]
+    thread = WriterThread(cast(Any, SimpleNamespace(work=lambda: ends.pop(0), is_idle=False)))
+    monkeypatch.setattr(writer.threading, "Event", lambda: SimpleNamespace(wait=waits.append))
+    thread._work()
+    assert waits == [1.0, 1.0] and ends == []
 
 
 @pytest.mark.parametrize(
@@ -229,6 +281,29 @@ def test_nothing_grows(tmp_path: Path, grows: bool, monkeypatch: pytest.MonkeyPa
         most.append(entries(one.watch, one))
     assert 200 < max(most) < 2000 and (max(most[12:]) > max(most[:12]) + 100) == grows
     one.end()
+
+
+def test_the_pace_of_a_watch(monkeypatch: pytest.MonkeyPatch) -> None:
+    """It polls ten times a second, here each eighth, and ticks each half; of a tick that takes long no other one is made up for."""
+    now, slept, polls, ticks = [100.0], set[float](), list[float](), list[float]()
+    one: Any = object.__new__(service.Service)
+
+    def tick() -> None:
+        ticks.append(now[0])
+        now[0] += 2 if now[0] == 101.5 else 0
+
+    def sleep(seconds: float) -> None:
+        slept.add(seconds)
+        now[0] += 0.125
+        one._ending = now[0] >= 104
+
+    monkeypatch.setattr(service, "time", SimpleNamespace(sleep=sleep, monotonic=lambda: now[0]))
+    one._ending = one._rereading = False
+    one._thread = SimpleNamespace(crash=None)
+    one._watch = SimpleNamespace(poll=lambda: polls.append(now[0]), tick=tick)
+    one._go_on()
+    assert ticks == [100.125, 100.5, 101.0, 101.5, 103.625, 104.0] and slept == {0.1}
+    assert polls == [100 + n / 8 for n in (*range(1, 13), *range(29, 33))]
 
 
 def test_records_that_are_too_many(tmp_path: Path, monkeypatch: pytest.MonkeyPatch) -> None:

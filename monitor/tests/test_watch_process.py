@@ -113,6 +113,7 @@ def test_a_watch_that_is_ended(tmp_path: Path, number: int) -> None:
     one.receives(1000)
     process = one.receiver()
     assert one.end(number) == 0 and not Path(f"/proc/{process}").exists()
+    assert (tmp_path / "watch.lock").stat().st_mode & 0o133 == 0
     assert "rows were not written" not in one.log.read_text()
     # two, if an hour ends meanwhile
     *earlier, hour = sorted((tmp_path / "listings" / "Alpha").iterdir())

@@ -150,6 +150,7 @@ def test_soft_decisions_of_the_decoder(monkeypatch: pytest.MonkeyPatch, capsys: 
         ("[keep]\ncompress = 1\n" + stations(*ALPHA), "keep.compress: true or false is needed"),
         ('[keep]\nlistings_days = "60"\n' + stations(*ALPHA), "keep.listings_days"),
         ('[defaults]\nname = "a"\n' + stations(*ALPHA), "[defaults]"),
+        ("[[receiver]]\n" + stations(*ALPHA), "the receiver number 1 has no 'name'"),
     ],
 )
 def test_errors(text: str, fault: str) -> None:

@@ -135,6 +135,33 @@ def test_a_pace_by_two_reads() -> None:
     assert arrivals.pace() == (pytest.approx(1.5, abs=0.001), BEGIN + 1)
 
 
+@pytest.mark.parametrize(
+    "lasted, late, rate",
+    [
+        (600, 0.36, 1187.3813),
+        (601, 0.36, 1186.6705),
+        (3600, 0.36, 1187.2625),
+        (3600, 0.049, 1187.5),
+        (3600, 9, 1186.3137),
+        (3600, -9, 1188.6887),
+    ],
+)
+def test_the_rate_after_a_cut(lasted: int, late: float, rate: float) -> None:
+    """It makes up for a delay within an hour, and after ten minutes or less not for more. It is off by a thousandth at most. The next delay
+    is known by ten seconds."""
+    arrivals = Arrivals()
+    for second in range(lasted + 1):
+        arrivals.take(int(second * RATE), BEGIN + second + (late if second > 5 else 0))
+    place, before = int(lasted * RATE), arrivals.timing
+    arrivals.cut(place, BEGIN + lasted)
+    assert arrivals.timing is not None and before is not None and arrivals.timing.rate == rate
+    assert 0 <= arrivals.timing.utc(place) - before.utc(place) < 0.00101
+    for second in range(1, 11):
+        arrivals.take(int((lasted + second) * RATE), BEGIN + lasted + second + late)
+        known = second == 10 and abs(late) > 0.05
+        assert arrivals.delay() == (pytest.approx(late, abs=0.02) if known else 0)
+
+
 @given(st.lists(st.floats(0, 5), min_size=30, max_size=200), st.floats(-200, 200))
 def test_no_time_goes_back(delays: List[float], ppm: float) -> None:
     """However reads are held up, and wherever parts are cut."""

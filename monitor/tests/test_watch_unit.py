@@ -13,6 +13,7 @@ from typing import Any, Dict, Iterator, List, Tuple
 import pytest
 
 from conftest import TOP, ran
+from rds_monitor.rows import decoders
 from rds_monitor.watch.alarms import NAMES
 from rds_monitor.watch.metrics import METRICS
 from rds_monitor.watch.table import read_table
@@ -120,6 +121,8 @@ def test_what_the_service_is() -> None:
         for name, text in zip(parts[::2], parts[1::2])
     }
     assert found == {name: text.split("\n") for name, text in WANTED.items()}
+    # Within that time a decoder that hangs is given up, twice.
+    assert f"WatchdogSec={2 * decoders.PATIENCE:g}" in found["Service"]
     lines = (PACKAGING / "rds-monitor.sysusers").read_text().splitlines()[1:]
     assert lines == [
         "g plugdev - -",
