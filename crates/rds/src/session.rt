@@ -12,7 +12,10 @@ use rds_code::RdsError;
 use rds_crew::MOST_WORKERS;
 use rds_soft::Margin;
 use rds_sync::Rules;
-use rds_tool::{FromRead, Input, Job, Request, RuleNumbers, Sink, Source, ToWrite, follow, follow_soft, transcribe, transcribe_gated};
+use rds_tool::{
+    FromRead, Input, Job, Request, RuleNumbers, Sink, Source, ToWrite, follow, follow_soft,
+    transcribe, transcribe_gated,
+};
 use std::alloc::Global;
 use std::rt::{Stdin, Stdout};
 use std::thread::Threads;
