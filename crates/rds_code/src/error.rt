@@ -1,11 +1,12 @@
-//! Why a call is refused, in every crate of the project.
+//! Why a call is refused. The crates from blocks to listings share this type.
 ghost use Rattle.std.specs.Prelude.{◌≡◌};
 ghost use Rattle.rds_code.specs.declared.error.RdsError.TheVariants.{OutOfMemory};
 
 use std::alloc::{AllocError, AllocFailed};
 use thiserror::Error;
 
-/// Why a call of the project's crates is refused. Each refusal has a number and a name, which never change: this project's rule.
+/// Why a call is refused, here and in the crates above. Each refusal has a number and a name, which never change:
+/// this project's rule.
 #[derive(Clone, Copy, Debug, PartialEq, Eq, Error)]
 pub enum RdsError {
     /// The longest burst to be corrected is above 5 bits.
@@ -26,10 +27,10 @@ pub enum RdsError {
     /// The places of the cuts don't cut the recording, or an even cutting is asked for with no piece.
     #[error("the cuts are no cutting of the recording")]
     BadCutting,
-    /// The workers are not 1 to 256.
-    #[error("the workers are not 1 to 256")]
+    /// The workers of a crew, or the seats of a dealer, are not 1 to 256.
+    #[error("the workers or seats are not 1 to 256")]
     CrewRange,
-    /// A growth of memory was refused.
+    /// The system refused memory.
     #[error("out of memory")]
     OutOfMemory,
     /// The reader failed.

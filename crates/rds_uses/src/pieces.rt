@@ -38,7 +38,6 @@ pub fn even_cutting(
     ensures end { IfOk result (λ made. made.1 ≡ len) }
     ensures refused { IsOkUnless result OutOfMemory }
 {
-    laws::pieces_are_few();
     let cutting = Cutting::even(alloc, len, pieces)?;
     let last = cutting.pieces() - 1;
     let touch = j >= last || cutting.to(j) == cutting.from(j + 1);

@@ -4,7 +4,7 @@ import csv
 import sys
 import textwrap
 from itertools import chain
-from typing import Dict, List, Tuple
+from typing import Dict, List, NamedTuple
 
 import numpy
 
@@ -77,8 +77,8 @@ def run_info(arguments: argparse.Namespace) -> int:
             for event in events:
                 items = programmes.setdefault(event.pi, {})
                 before = items.get(event.item)
-                if not before or before[0] != event.text:
-                    items[event.item] = event.text, event.place, before[2] + 1 if before else 0
+                if not before or before.text != event.text:
+                    items[event.item] = Last(event.text, event.place, before.changes + 1 if before else 0)
     if not (arguments.csv or arguments.json):
         sections = [section(pi, items, clock_of(arguments, source)) for pi, items in programmes.items()]
         sys.stdout.write("\n".join(sections) or "no station: no PI was received in valid blocks\n")
@@ -91,15 +91,21 @@ def row_of(event: Event, clock: Clock) -> List[str]:
     return [*shown, str(event.place), *clock.utc(event.place)]
 
 
-Last = Tuple[str, int, int]  # the last value of an item, since when it holds, and how often it changed
+class Last(NamedTuple):
+    """The last value of an item."""
+
+    text: str
+    place: int  # since when it holds
+    changes: int
 
 
 def section(pi: int, items: Dict[str, Last], clock: Clock) -> str:
     width = max(len(label(item)) for item in items)
-    lines = [f"{pi:04X} {printable(items['ps'][0]) if 'ps' in items else ''}".rstrip()]
+    lines = [f"{pi:04X} {printable(items['ps'].text) if 'ps' in items else ''}".rstrip()]
     for item, (text, place, changes) in items.items():
         if item != "pi":
-            since = [*clock.utc(place), f"{clock.seconds(place):.3f} s"][0]
+            utc = clock.utc(place)
+            since = utc[0] if utc else f"{clock.seconds(place):.3f} s"
             changed = f", {changes} change{'s' * (changes != 1)}" if changes else ""
             lines.append(f"  {label(item):{width}}  {printable(text)}  (since {since}{changed})")
     return "\n".join(lines) + "\n"

@@ -46,7 +46,7 @@ def file_of(name: str, time: Any) -> str:
 
 
 def begin_of(month: int) -> float:
-    """The begin of a month, of which there are 12 in the year 1, in seconds since 1970."""
+    """The begin of a month, in seconds since 1970. Months are counted from the begin of year 0."""
     return datetime.datetime(month // 12, month % 12 + 1, 1, tzinfo=UTC).timestamp()
 
 

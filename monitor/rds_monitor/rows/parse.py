@@ -8,6 +8,9 @@ import numpy
 
 from .items import ACQUIRED, BLOCKS, CORRECTED, GROUP, ITEM, LONGEST, LOSS, LOST, UNKNOWN_TYPE, VALID, Rows
 
+Bools = Rows
+Array = Rows
+
 TOTAL = 4  # in place of an item: a row of a total
 # Bytes before the lines, the end of a line among them, and after: a window at any field lies within them.
 BEFORE, AFTER = bytes(15) + b"\n", bytes(16)
@@ -48,9 +51,9 @@ TYPE_WORDS = numpy.array([_number(text) for text in TYPE_TEXTS])
 TYPE_MASKS = numpy.array([_number(b"\xff" * len(text)) for text in TYPE_TEXTS])
 
 
-def read_pattern(rows: Rows) -> Rows:
+def read_pattern(rows: Rows) -> Array:
     """Which blocks of each row were read, as four bits, block 1 highest."""
-    pattern: Rows = (rows["kind1"] > 0) * numpy.uint8(8)
+    pattern: Array = (rows["kind1"] > 0) * numpy.uint8(8)
     for block, bit in ((2, 4), (3, 2), (4, 1)):
         pattern |= (rows[f"kind{block}"] > 0) * numpy.uint8(bit)
     return pattern
@@ -61,7 +64,7 @@ class _Lines:
 
     def __init__(self, lines: bytes):
         self.data = numpy.frombuffer(BEFORE + lines + AFTER, "u1")
-        self.faults: List[Tuple[Rows, str]] = []
+        self.faults: List[Tuple[Bools, str]] = []
         at = numpy.flatnonzero((self.data == 44) | (self.data == 10))
         self.count, self.fields = len(at) // 8, 8
         signs = self.data[at[1:]]
@@ -70,26 +73,26 @@ class _Lines:
         self.ends = at[1 : 8 * self.count + 1].reshape(-1, 8)
         self.starts = at[: 8 * self.count].reshape(-1, 8) + 1
 
-    def _cut(self, feeds: Rows) -> None:
+    def _cut(self, feeds: Array) -> None:
         """Keeps the lines before the first one that has no eight fields, by which separators are line feeds."""
         fields = numpy.diff(feeds, prepend=-1)
         self.count = int((fields != 8).argmax())
         self.fields = int(fields[self.count])
 
-    def windows(self, at: Rows, size: int) -> Rows:
+    def windows(self, at: Array, size: int) -> Array:
         """The bytes at these places, a row of `size` bytes for each."""
-        every: Rows = numpy.ndarray((len(self.data) - size + 1,), f"V{size}", self.data, strides=(1,))
+        every: Array = numpy.ndarray((len(self.data) - size + 1,), f"V{size}", self.data, strides=(1,))
         return every[at].view("u1").reshape(-1, size)
 
-    def words(self, at: Rows) -> Rows:
+    def words(self, at: Array) -> Array:
         """The 8 bytes at these places, the first one lowest."""
         return self.windows(at, 8).view("<u8").reshape(at.shape)
 
-    def has(self, at: Rows, text: bytes) -> Rows:
-        same: Rows = (self.windows(at, len(text)) == numpy.frombuffer(text, "u1")).all(axis=1)
+    def has(self, at: Array, text: bytes) -> Bools:
+        same: Bools = (self.windows(at, len(text)) == numpy.frombuffer(text, "u1")).all(axis=1)
         return same
 
-    def check(self, fine: Rows, reason: str, rows: Optional[Rows] = None) -> None:
+    def check(self, fine: Bools, reason: str, rows: Optional[Array] = None) -> None:
         """Notes the rows that are not fine; `rows` says which rows these are, by default all."""
         if not fine.all():
             bad = numpy.zeros(self.count, bool)
@@ -157,7 +160,7 @@ NAMES = numpy.array([[_number(text)] for text in (b"A:", b"B:", b"C:", b"D:")], 
 NAME_OF_PRIME = numpy.uint16(_number(b"x:"))
 
 
-def _parse_blocks(lines: _Lines, rows: Rows) -> Rows:
+def _parse_blocks(lines: _Lines, rows: Rows) -> Bools:
     """Sets the blocks of rows: none, lost, B:2540 or C:0000~0008000. Which of them are blocks, a row per number. Most rows have neither
     masks nor lost blocks."""
     starts, lengths = lines.starts[:, 4:].T.copy(), (lines.ends - lines.starts)[:, 4:].T.copy()
@@ -180,7 +183,7 @@ def _parse_blocks(lines: _Lines, rows: Rows) -> Rows:
         known &= masks >= 0
         corrected = masks > 0
         _set(rows, "burst", masks * known)
-    fine: Rows = known
+    fine: Bools = known
     kinds = known * numpy.uint8(VALID) + corrected * numpy.uint8(CORRECTED - VALID)
     if is_short.any():
         low = words & numpy.uint64(0xFFFFFFFF)
@@ -193,12 +196,12 @@ def _parse_blocks(lines: _Lines, rows: Rows) -> Rows:
     return fine
 
 
-def _set(rows: Rows, name: str, columns: Rows) -> None:
+def _set(rows: Rows, name: str, columns: Array) -> None:
     for block, column in zip(BLOCKS, columns):
         rows[f"{name}{block}"] = column
 
 
-def _masks(words: Rows) -> Rows:
+def _masks(words: Array) -> Array:
     """The error masks of texts such as ~0008000, or -1 for one that is none."""
     tilde, zero = _number(b"~"), _number(b"0")
     pairs = HEX[(words - tilde + zero).view("<u2").reshape(-1, 4)].astype("i8")
@@ -208,7 +211,7 @@ def _masks(words: Rows) -> Rows:
     return numpy.where(fine, masks, -1)
 
 
-def set_types(groups: Rows) -> Rows:
+def set_types(groups: Rows) -> Array:
     """Sets type, version and conflict of groups by their blocks, and gives the index of their text."""
     known2, valid3 = groups["kind2"] >= VALID, groups["kind3"] == VALID
     version2 = (groups["info2"] >> 11 & 1).astype("u1") + 1
@@ -218,7 +221,7 @@ def set_types(groups: Rows) -> Rows:
     conflict = valid3 & known2 & (version2 != version3)
     number = numpy.where(known2, groups["info2"] >> 12, UNKNOWN_TYPE).astype("u1")
     groups["number"], groups["version"], groups["conflict"] = number, version, conflict
-    index: Rows = numpy.minimum(number, 16).astype("i8") * 8 + version * 2 + conflict
+    index: Array = numpy.minimum(number, 16).astype("i8") * 8 + version * 2 + conflict
     return index
 
 

@@ -1,7 +1,7 @@
 """Where carrier or bit clock jump: samples were dropped there, or the transmitter's pilot jumped."""
 
 import math
-from typing import List, Tuple
+from typing import List, NamedTuple
 
 import numpy
 from numpy.lib.stride_tricks import sliding_window_view
@@ -9,9 +9,14 @@ from numpy.lib.stride_tricks import sliding_window_view
 from .samples import Complexes, Reals, Signal
 from .symbols import CHIP_RATE, TINY, powers
 
-# The mean phasors of the segments before and after each boundary, the evidence that their phases differ, and how far the phasors had
-# turned at each segment, which was undone.
-Sides = Tuple[Complexes, Complexes, Reals, Reals]
+
+class Sides(NamedTuple):
+    """Both sides of each boundary: the mean phasors of the segments before and after it."""
+
+    before: Complexes
+    after: Complexes
+    evidence: Reals  # that their phases differ
+    turned: Reals  # at each segment, which was undone
 
 
 def means(streams: Signal, count: int) -> Signal:
@@ -127,12 +132,12 @@ class Jumps:
         weight = reach * amplitudes / (unsure * numpy.maximum(variance, self.VARIANCE))
         evidence = (weight * (amplitudes - abs(before + after))).sum(axis=0)
         evidence[numpy.minimum(abs(before[0]), abs(after[0])) < self.COHERENT] = 0
-        return before, after, evidence, turned
+        return Sides(before, after, evidence, turned)
 
     def _places(self, count: int) -> List[int]:
         """The jumps at the next `count` boundaries: those with enough evidence, and the most around."""
         sides = self._sides()
-        first, evidence = self._needed - self.WIDE, sides[2]
+        first, evidence = self._needed - self.WIDE, sides.evidence
         around = evidence[first - self.REACH : first + count + self.REACH]
         highest = sliding_window_view(around, 2 * self.REACH + 1).max(axis=1)
         own = evidence[first : first + count]
@@ -141,12 +146,11 @@ class Jumps:
 
     def _located(self, at: int, sides: Sides) -> int:
         """The place of a jump near a boundary, to the sample, by the phases of the segments farther away."""
-        before, after, _, turns = sides
         boundary, index = self._boundary + at, self._needed - self.WIDE + at
         first, last = max(0, boundary - 2) * self._length, (boundary + 2) * self._length
         segments = numpy.arange(first, last) / self._length - boundary + self._needed + at - 0.5
-        turned = [numpy.interp(segments, numpy.arange(own.size), own) for own in turns]
-        apart = before[:, index - 2, None] - after[:, index + 2, None]
+        turned = [numpy.interp(segments, numpy.arange(own.size), own) for own in sides.turned]
+        apart = sides.before[:, index - 2, None] - sides.after[:, index + 2, None]
         back = numpy.exp(-1j * numpy.array(turned))
         gain = self._phasors(first, last) * back * apart.conj() / self.VARIANCE
         return first + int(numpy.cumsum(numpy.append(0, gain.real.sum(axis=0))).argmax())

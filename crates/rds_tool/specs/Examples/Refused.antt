@@ -1,7 +1,7 @@
 -- The refusals of a job, in the order of looking: its settings, its text, its bits, its cuts.
 use Rattle.std.specs.{Prelude.◌≡◌, Prelude.List, Prelude.[], Prelude.◌∷◌, Prelude.Err, Prelude.ℕ, Prelude.codes, Prelude.false, Prelude.map, Prelude.refl, Global.Vec}
 use Rattle.hex.specs.Hex.{decode_pairs}
-use Rattle.rds_code.specs.{Refusals.name_of, Refusals.number_of, declared.error.RdsError.RdsError, declared.error.RdsError.TheVariants.BadCutting, declared.error.RdsError.TheVariants.BadGaps, declared.error.RdsError.TheVariants.BitsPastBytes, declared.error.RdsError.TheVariants.BurstRange, declared.error.RdsError.TheVariants.CrewRange, declared.error.RdsError.TheVariants.GroupText, declared.error.RdsError.TheVariants.HexText, declared.error.RdsError.TheVariants.LossRange, declared.error.RdsError.TheVariants.NoWorker, declared.error.RdsError.TheVariants.OutOfMemory, declared.error.RdsError.TheVariants.ReachRange, declared.error.RdsError.TheVariants.Read, declared.error.RdsError.TheVariants.ShareRange, declared.error.RdsError.TheVariants.TooLong, declared.error.RdsError.TheVariants.TooManyTurns, declared.error.RdsError.TheVariants.Write}
+use Rattle.rds_code.specs.{declared.error.RdsError.RdsError, declared.error.RdsError.TheVariants.BadCutting, declared.error.RdsError.TheVariants.BadGaps, declared.error.RdsError.TheVariants.BitsPastBytes, declared.error.RdsError.TheVariants.BurstRange, declared.error.RdsError.TheVariants.CrewRange, declared.error.RdsError.TheVariants.GroupText, declared.error.RdsError.TheVariants.HexText, declared.error.RdsError.TheVariants.TooLong}
 use Rattle.rds_tool.specs.{Outcome.result_of_job, declared.job.Cuts.TheVariants.At, declared.job.Job.Job, declared.job.Job.TheVariants.Encode, declared.job.Job.TheVariants.List as ListJob, declared.job.Job.TheVariants.Scan, declared.job.Job.TheVariants.Totals, Examples.Words.cut_settings, Examples.Words.default_settings, Examples.Words.hex_bits, Examples.Words.hex_input, Examples.Words.raw_bits, Examples.Words.settings_of}
 
 -- these jobs and bytes are refused so
@@ -42,21 +42,3 @@ pub before_places : (places : Vec ℕ) → AreRefused (
     ∷ []
     )
 before_places places = refl
-
--- ---- numbers and names
-
-abbrev pub all : List RdsError
-all = BurstRange ∷ ReachRange ∷ LossRange ∷ BitsPastBytes ∷ TooLong ∷ BadCutting ∷ CrewRange ∷ OutOfMemory ∷ Read
-    ∷ Write ∷ HexText ∷ GroupText
-    ∷ TooManyTurns ∷ NoWorker ∷ ShareRange ∷ BadGaps ∷ []
-
-pub numbers : map number_of all ≡ 1 ∷ 2 ∷ 3 ∷ 4 ∷ 5 ∷ 6 ∷ 7 ∷ 8 ∷ 9 ∷ 10 ∷ 11 ∷ 12 ∷ 13 ∷ 14 ∷ 15 ∷ 16 ∷ []
-numbers = refl
-
-pub names : map name_of all
-    ≡ codes "BurstRange" ∷ codes "ReachRange" ∷ codes "LossRange" ∷ codes "BitsPastBytes" ∷ codes "TooLong"
-    ∷ codes "BadCutting"
-    ∷ codes "CrewRange" ∷ codes "OutOfMemory" ∷ codes "Read" ∷ codes "Write" ∷ codes "HexText" ∷ codes "GroupText"
-    ∷ codes "TooManyTurns"
-    ∷ codes "NoWorker" ∷ codes "ShareRange" ∷ codes "BadGaps" ∷ []
-names = refl
