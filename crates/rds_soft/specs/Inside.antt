@@ -4,3 +4,4 @@ pub mod Rows
 pub mod Nearer
 pub mod Packed
 pub mod Streams
+pub mod Lists

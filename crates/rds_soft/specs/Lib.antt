@@ -3,6 +3,7 @@ pub mod Symbols
 pub mod SoftGroups
 pub mod ReadAgain
 pub mod SoftTotals
+pub mod SoftLists
 pub mod SoftStream
 pub mod Laws
 pub mod Inside

@@ -52,6 +52,8 @@ mod again; // Items read again.
 mod soft_totals; // Their totals.
 mod pack; // Symbols as the bits between them.
 mod near; // The part of a stream that is known.
+mod soft_list; // Items in little room.
+mod reading_again; // Items read again by several threads.
 mod soft_stream; // A stream of symbols.
 pub mod laws; // The laws of the nearest block.
 
@@ -60,6 +62,7 @@ pub use margin::Margin;
 pub use nearest::Search;
 pub use pack::pack_bits;
 pub use soft_item::{SoftBlock, SoftGroup, SoftItem};
+pub use soft_list::{Listed, SoftList, ValidGroup};
 pub use soft_reading::{SoftReading, mask_of};
 pub use soft_stream::{SoftEnd, SoftStream};
 pub use soft_totals::SoftTotals;

@@ -1,19 +1,24 @@
 //! The part of a stream that its last symbols and the next ones are.
 
-ghost use Rattle.std.specs.Prelude.{◌≡◌, ◌++◌, ◌-◌, ◌+◌, ◌*◌, ◌^◌, ◌<◌, ◌≤◌, ◌⊎◌, ℕ, All, IfOk, OnOk, length, map};
+ghost use Rattle.std.specs.Prelude.{◌≡◌, ◌++◌, ◌-◌, ◌+◌, ◌*◌, ◌^◌, ◌<◌, ◌≤◌, ◌⊎◌, ℕ, All, IfOk, IfSome, List, OnOk, length, map};
+ghost use Rattle.rds_code.specs.declared.reading.Reading.TheVariants.{Valid as HardValid};
 ghost use Rattle.rds_live.specs.{Moving.most_behind, Moving.moved_state, Next.moved_back, Places.place_of};
 ghost use Rattle.rds_stream.specs.Recording.{AreGaps, Signal, length_of};
-ghost use Rattle.rds_sync.specs.{Lawful.IsLawful, Step.items_of_end, Step.run};
-ghost use Rattle.rds_soft.specs.{SoftStream.group_item, declared.soft_item.SoftItem.TheVariants.Group as InSoft, Inside.Streams.again_in, Inside.Streams.last_symbols, Inside.Streams.moved_again, Inside.Streams.part_of, Inside.Streams.place_again};
+ghost use Rattle.rds_sync.specs.{Lawful.IsLawful, Step.items_of_end, Step.run, declared.item.Block.TheVariants.Read as HardRead};
+ghost use Rattle.rds_soft.specs.{SoftLists.third_offset as the_third_offset, SoftLists.valid_group, SoftStream.group_item, declared.soft_item.SoftItem.TheVariants.Group as InSoft, Inside.Streams.again_in, Inside.Streams.last_symbols, Inside.Streams.moved_again, Inside.Streams.part_of, Inside.Streams.place_again};
 
 use crate::margin::Margin;
 use crate::nearest::Search;
 use crate::pack::pack_bits;
+use crate::reading_again::{has_work_for_several, read_all};
 use crate::soft_item::{SoftGroup, SoftItem};
+use crate::soft_list::{SoftList, ValidGroup};
+use rds_code::{Offset, Reading};
 use rds_live::{finish_part, gaps_of_part, run_part};
 use rds_stream::{MOST_BITS, Recording};
-use rds_sync::{Group, Item, Rules, State};
+use rds_sync::{Block, Group, Item, Rules, State};
 use std::alloc::{AllocError, Global};
+use std::thread::Threads;
 
 /// How many of the last symbols are kept.
 const MOST_KEPT: usize = 240;
@@ -25,6 +30,8 @@ pub(crate) struct Near {
     pub(crate) symbols: Vec<u8>,
     /// The place of the part's first bit in the stream, and number of its first symbol.
     pub(crate) before: u64,
+    /// By which its blocks are read again.
+    pub(crate) margin: Margin,
 }
 
 /// The part of a stream that begins with symbol number `before`: the symbols that are kept, and these after them. Takes memory for both,
@@ -32,6 +39,7 @@ pub(crate) struct Near {
 pub(crate) fn near_of(
     alloc: Global,
     gaps: &[(u64, u64)],
+    margin: Margin,
     before: u64,
     kept: &[u8],
     symbols: &[u8],
@@ -41,6 +49,7 @@ pub(crate) fn near_of(
     ensures symbols { IfOk result (λ near. near.symbols.items ≡ kept.now ++ symbols.now) }
     ensures part { IfOk result (λ near. near.recording ≡ part_of gaps.now before (kept.now ++ symbols.now)) }
     ensures before { IfOk result (λ near. near.before ≡ before) }
+    ensures margin { IfOk result (λ near. near.margin ≡ margin) }
 {
     let mut all = Vec::with_capacity(alloc, kept.len() + symbols.len())?;
     all.extend_from_slice(kept)?;
@@ -50,6 +59,7 @@ pub(crate) fn near_of(
         recording,
         symbols: all,
         before,
+        margin,
     })
 }
 
@@ -103,24 +113,105 @@ pub(crate) fn run_near(
     Ok((items, end))
 }
 
-/// These items of a part, each read again from its symbols.
-pub(crate) fn read_all_again(
+/// These items of a part, each read again from its symbols: by several threads, if there are other searches and work for them. Takes
+/// memory for the items.
+pub(crate) fn read_all_again<R: Threads + Sync>(
+    rt: &R,
+    alloc: Global,
+    search: &mut Search,
+    others: &mut [Search],
+    near: &Near,
+    items: &[Item],
+) -> Result<SoftList, AllocError>
+    requires limit { near.now.before ≤ 2 ^ 36 }
+    requires places { All (λ item. place_of item < 2 ^ 37) items.now }
+    ensures { IfOk result (λ again. again
+        ≡ map (again_in near.now.recording near.now.symbols.items near.now.margin near.now.before) items.now) }
+{
+    if others.is_empty() || !has_work_for_several(items) {
+        return list_of_part(alloc, search, near, items);
+    }
+    let mut again = vec![in alloc; SoftItem::LostLock { place: 0 }; items.len()]?;
+    read_all(rt, near, search, others, items, again.as_mut_slice());
+    list_of(alloc, again.as_slice())
+}
+
+/// The same by one thread.
+fn list_of_part(
     alloc: Global,
     search: &mut Search,
     near: &Near,
-    margin: Margin,
     items: &[Item],
-) -> Result<Vec<SoftItem>, AllocError>
+) -> Result<SoftList, AllocError>
     requires limit { near.now.before ≤ 2 ^ 36 }
     requires places { All (λ item. place_of item < 2 ^ 37) items.now }
-    ensures { IfOk result (λ again. again.items
-        ≡ map (again_in near.now.recording near.now.symbols.items margin near.now.before) items.now) }
+    ensures { IfOk result (λ again. again
+        ≡ map (again_in near.now.recording near.now.symbols.items near.now.margin near.now.before) items.now) }
 {
-    let mut again = Vec::with_capacity(alloc, items.len())?;
+    let mut list = SoftList::new(alloc);
     for item in items {
-        again.push(item_in(search, near, margin, item))?;
+        match valid_in(item, near.before) {
+            Some(group) => list.push_valid(group)?,
+            None => list.push(item_in(search, near, item))?,
+        }
     }
-    Ok(again)
+    Ok(list)
+}
+
+/// An item of a part from place `before` on, if it is a group of four valid blocks, which stay so, and block 3 has the offset of the
+/// version that block 2 names.
+fn valid_in(item: &Item, before: u64) -> Option<ValidGroup>
+    requires limit { before ≤ 2 ^ 36 }
+    requires place { place_of item.now < 2 ^ 37 }
+    ensures { IfSome result (λ group. (b : Signal) (symbols : List ℕ) (margin : ℕ)
+        → again_in b symbols margin before item.now ≡ InSoft (valid_group group)) }
+{
+    let Item::Group(group) = item else {
+        return None;
+    };
+    let [one, two, three, four] = &group.blocks;
+    let second = info_with(two, Offset::B)?;
+    Some(ValidGroup {
+        place: group.place + before,
+        words: [
+            info_with(one, Offset::A)?,
+            second,
+            info_with(three, third_offset(second))?,
+            info_with(four, Offset::D)?,
+        ],
+    })
+}
+
+/// The information word of a block, if it is valid with this offset.
+fn info_with(block: &Block, wanted: Offset) -> Option<u16>
+    ensures { IfSome result (λ info. block.now ≡ HardRead (HardValid wanted info)) }
+{
+    match *block {
+        Block::Read(Reading::Valid { offset, info }) if offset == wanted => Some(info),
+        _ => None,
+    }
+}
+
+/// The offset of block 3 of the version that the information word of block 2 names.
+fn third_offset(second: u16) -> Offset
+    ensures { result ≡ the_third_offset second }
+{
+    if (second >> 11) & 1 == 0 {
+        Offset::C
+    } else {
+        Offset::Cx
+    }
+}
+
+/// These items as a list.
+fn list_of(alloc: Global, items: &[SoftItem]) -> Result<SoftList, AllocError>
+    ensures { IfOk result (λ list. list ≡ items.now) }
+{
+    let mut list = SoftList::new(alloc);
+    for item in items {
+        list.push(*item)?;
+    }
+    Ok(list)
 }
 
 /// The group in progress at the end of a part, in this state of the stream, read again from the part's symbols.
@@ -128,41 +219,40 @@ pub(crate) fn end_near(
     search: &mut Search,
     near: &Near,
     rules: &Rules,
-    margin: Margin,
     state: State,
 ) -> Option<SoftGroup>
     requires lawful { IsLawful rules.now (length_of near.now.recording + near.now.before) state }
     requires early { (near.now.before ≡ 0) ⊎ (most_behind ≤ length_of near.now.recording) }
     requires limit { near.now.before ≤ 2 ^ 36 }
-    ensures { group_item result ≡ map (again_in near.now.recording near.now.symbols.items margin near.now.before)
+    ensures { group_item result ≡ map (again_in near.now.recording near.now.symbols.items near.now.margin near.now.before)
         (items_of_end near.now.recording rules.now (moved_back near.now.before state)) }
 {
     prove!(near.recording.len() <= MOST_BITS);
     match finish_part(&near.recording, near.before, rules, state) {
-        Some(group) => Some(group_in(search, near, margin, group)),
+        Some(group) => Some(group_in(search, near, group)),
         None => None,
     }
 }
 
 /// A group of a part, read again from its symbols.
-fn group_in(search: &mut Search, near: &Near, margin: Margin, group: Group) -> SoftGroup
+fn group_in(search: &mut Search, near: &Near, group: Group) -> SoftGroup
     requires limit { near.now.before ≤ 2 ^ 36 }
     requires place { group.place < 2 ^ 37 }
-    ensures { InSoft result ≡ again_in near.now.recording near.now.symbols.items margin near.now.before (Item.Group group) }
+    ensures { InSoft result ≡ again_in near.now.recording near.now.symbols.items near.now.margin near.now.before (Item.Group group) }
 {
-    match item_in(search, near, margin, &Item::Group(group)) {
+    match item_in(search, near, &Item::Group(group)) {
         SoftItem::Group(again) => again,
         _ => unreachable!(),
     }
 }
 
 /// An item of a part, read again from its symbols, by its place in the stream.
-fn item_in(search: &mut Search, near: &Near, margin: Margin, item: &Item) -> SoftItem
+pub(crate) fn item_in(search: &mut Search, near: &Near, item: &Item) -> SoftItem
     requires limit { near.now.before ≤ 2 ^ 36 }
     requires place { place_of item.now < 2 ^ 37 }
-    ensures { result ≡ again_in near.now.recording near.now.symbols.items margin near.now.before item.now }
+    ensures { result ≡ again_in near.now.recording near.now.symbols.items near.now.margin near.now.before item.now }
 {
-    let again = search.read_again(&near.recording, near.symbols.as_slice(), margin, item);
+    let again = search.read_again(&near.recording, near.symbols.as_slice(), near.margin, item);
     moved_on(again, near.before)
 }
 

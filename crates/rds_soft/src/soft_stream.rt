@@ -1,6 +1,6 @@
 //! A stream of symbols, heard as it comes.
 
-ghost use Rattle.std.specs.Prelude.{◌≡◌, ◌↔◌, ◌++◌, ◌+◌, ◌-◌, ◌*◌, ◌^◌, ◌<◌, ◌≤◌, ◌⊎◌, ℕ, List, [], IfErr, IfOk, IsErrOf, OnErr, OnOk, length, true};
+ghost use Rattle.std.specs.Prelude.{◌≡◌, ◌↔◌, ◌++◌, ◌+◌, ◌-◌, ◌*◌, ◌^◌, ◌<◌, ◌≤◌, ◌⊎◌, ℕ, List, [], IfErr, IfOk, IsErrOf, IsOkUnless, OnErr, OnOk, length, true};
 ghost use Rattle.rds_stream.specs.Recording.{AreGaps};
 ghost use Rattle.rds_soft.specs.{SoftStream.complete, SoftStream.group_item, SoftStream.report_of, SoftTotals.AreAtMost, SoftTotals.soft_totals_of, declared.soft_item.SoftItem.SoftItem as AnItem};
 
@@ -9,6 +9,7 @@ use crate::margin::Margin;
 use crate::near::{end_near, last_of, near_of, read_all_again, run_near};
 use crate::nearest::Search;
 use crate::soft_item::{SoftGroup, SoftItem};
+use crate::soft_list::SoftList;
 use crate::soft_totals::SoftTotals;
 use rds_code::RdsError;
 use rds_live::laws::{ends_move, runs_move};
@@ -17,6 +18,10 @@ use rds_stream::{MOST_BITS, Trace, are_gaps};
 use rds_sync::{Rules, State, laws};
 use std::alloc::{AllocError, Global};
 use std::marker::Model;
+use std::thread::Threads;
+
+/// How many other threads are busy with the symbols of a read at most.
+const MOST_OTHERS: u32 = 39;
 
 /// A decoder of a stream of symbols, which takes them as they come: this project's rule. Its items are those of the bits between the
 /// symbols, each group read again from its symbols. An item is given with the symbol that completes it.
@@ -28,6 +33,8 @@ pub struct SoftStream<'r> {
     gaps: &'r [(u64, u64)],
     margin: Margin,
     search: Search,
+    /// The searches of other threads.
+    others: Vec<Search>,
     /// The last symbols.
     kept: Vec<u8>,
     /// How many symbols were heard.
@@ -64,7 +71,8 @@ pub struct SoftEnd {
 
 impl<'r> SoftStream<'r> {
     /// A decoder that has heard nothing yet, of a stream with these gaps: ranges of the places of its bits, as those of
-    /// [`StreamDecoder::with_gaps`](rds_live::StreamDecoder::with_gaps). Blocks are corrected by this margin.
+    /// [`StreamDecoder::with_gaps`](rds_live::StreamDecoder::with_gaps). Blocks are corrected by this margin, by up to this number of
+    /// workers, each of which takes memory for a search.
     ///
     /// Refuses gaps that no recording may have. Then it fails only if memory is refused.
     pub fn new(
@@ -72,6 +80,76 @@ impl<'r> SoftStream<'r> {
         rules: &'r Rules,
         gaps: &'r [(u64, u64)],
         margin: Margin,
+        workers: u32,
+    ) -> Result<SoftStream<'r>, RdsError>
+        ensures stream { IfOk result (λ stream. stream ≡ record {
+          terms = record { rules = rules.now; gaps = gaps.now; margin = margin };
+          symbols = [];
+        }) }
+        ensures bad_gaps { IsErrOf result RdsError.BadGaps ↔ (AreGaps (2 ^ 36) gaps.now → ⊥) }
+        ensures only { IfErr result (λ e. (e ≡ RdsError.BadGaps) ⊎ (e ≡ RdsError.OutOfMemory)) }
+    {
+        if !may_have_gaps(gaps) {
+            return Err(RdsError::BadGaps);
+        }
+        Ok(SoftStream {
+            rules,
+            gaps,
+            margin,
+            search: Search::new(alloc)?,
+            others: searches(alloc, workers.saturating_sub(1).min(MOST_OTHERS))?,
+            kept: Vec::new(alloc),
+            count: 0,
+            state: State::Searching,
+            totals: SoftTotals::NONE,
+            history: Trace::new(),
+        })
+    }
+
+    /// How many symbols were heard.
+    count: u64,
+    /// The state after the bits between them.
+    state: State,
+    /// The totals of the items that are complete.
+    totals: SoftTotals,
+    history: Trace,
+}
+
+impl<'r> Model for SoftStream<'r> {
+    ghost use Rattle.rds_soft.specs.{SoftStream.SoftHeard, Inside.Streams.Knows};
+
+    ghost Value = { SoftHeard };
+
+    ghost view = { λ s. record {
+      terms = record { rules = s.rules.now; gaps = s.gaps.now; margin = s.margin };
+      symbols = s.history.bytes;
+    } };
+
+    ghost invariant = { λ s. Knows (record { rules = s.rules.now; gaps = s.gaps.now; margin = s.margin })
+        s.history.bytes s.kept.items s.count s.state s.totals };
+}
+
+/// The result of the end of a stream of symbols.
+#[derive(Clone, Copy, Debug, PartialEq, Eq)]
+pub struct SoftEnd {
+    /// The group in progress, as far as it was read.
+    pub group: Option<SoftGroup>,
+    /// The totals of the report: of all items, and of this group.
+    pub totals: SoftTotals,
+}
+
+impl<'r> SoftStream<'r> {
+    /// A decoder that has heard nothing yet, of a stream with these gaps: ranges of the places of its bits, as those of
+    /// [`StreamDecoder::with_gaps`](rds_live::StreamDecoder::with_gaps). Blocks are corrected by this margin, by up to this number of
+    /// workers, each of which takes memory for a search.
+    ///
+    /// Refuses gaps that no recording may have. Then it fails only if memory is refused.
+    pub fn new(
+        alloc: Global,
+        rules: &'r Rules,
+        gaps: &'r [(u64, u64)],
+        margin: Margin,
+        workers: u32,
     ) -> Result<SoftStream<'r>, RdsError>
         ensures stream { IfOk result (λ stream. stream ≡ record {
           terms = record { rules = rules.now; gaps = gaps.now; margin = margin };
@@ -118,13 +196,18 @@ impl<'r> SoftStream<'r> {
     ///
     /// Refuses more than 2^36 + 1 symbols in all, and fails if memory is refused; it has then heard nothing.
     ///
-    /// Its cost: the bits are read once, after those of 240 symbols, and each block that is not valid is searched. It takes memory for
-    /// the symbols and for two items for each.
-    pub fn take(&mut self, alloc: Global, symbols: &[u8]) -> Result<Vec<SoftItem>, RdsError>
+    /// Its cost: the bits are read once, after those of 240 symbols, and each block that is not valid is searched, by several threads if
+    /// 128 or more are. It takes memory for the symbols and for two items for each.
+    pub fn take<R: Threads + Sync>(
+        &mut self,
+        rt: &R,
+        alloc: Global,
+        symbols: &[u8],
+    ) -> Result<SoftList, RdsError>
         ensures heard { OnOk result (self.new.symbols ≡ self.old.symbols ++ symbols.now) }
         ensures terms { self.new.terms ≡ self.old.terms }
         ensures items { IfOk result (λ items. complete self.old.terms (self.old.symbols ++ symbols.now)
-            ≡ complete self.old.terms self.old.symbols ++ items.items) }
+            ≡ complete self.old.terms self.old.symbols ++ items) }
         ensures refused { OnErr result (self.new ≡ self.old) }
         ensures too_long { IsErrOf result RdsError.TooLong
             ↔ (2 ^ 36 + 1 < length self.old.symbols + length symbols.now) }
@@ -133,19 +216,24 @@ impl<'r> SoftStream<'r> {
         if symbols.len() as u64 > MOST_BITS + 1 - self.count {
             return Err(RdsError::TooLong);
         }
-        match self.take_all(alloc, symbols) {
+        match self.take_all(rt, alloc, symbols) {
             Ok(items) => Ok(items),
             Err(_) => Err(RdsError::OutOfMemory),
         }
     }
 
     /// The same of symbols that are not too many.
-    fn take_all(&mut self, alloc: Global, symbols: &[u8]) -> Result<Vec<SoftItem>, AllocError>
+    fn take_all<R: Threads + Sync>(
+        &mut self,
+        rt: &R,
+        alloc: Global,
+        symbols: &[u8],
+    ) -> Result<SoftList, AllocError>
         requires { length self.old.symbols + length symbols.now ≤ 2 ^ 36 + 1 }
         ensures heard { OnOk result (self.new.symbols ≡ self.old.symbols ++ symbols.now) }
         ensures terms { self.new.terms ≡ self.old.terms }
         ensures items { IfOk result (λ items. complete self.old.terms (self.old.symbols ++ symbols.now)
-            ≡ complete self.old.terms self.old.symbols ++ items.items) }
+            ≡ complete self.old.terms self.old.symbols ++ items) }
         ensures refused { OnErr result (self.new ≡ self.old) }
     {
         prove!(1 <= self.rules.reach());
@@ -157,10 +245,11 @@ impl<'r> SoftStream<'r> {
         runs_move();
         let from = (self.kept.len() as u64).saturating_sub(1);
         let before = self.count - self.kept.len() as u64;
-        let near = near_of(alloc, self.gaps, before, &self.kept, symbols)?;
+        let near = near_of(alloc, self.gaps, self.margin, before, &self.kept, symbols)?;
         let (items, state) = run_near(alloc, &near, self.rules, self.state, from)?;
         let kept = last_of(alloc, &near.symbols)?;
-        let found = read_all_again(alloc, &mut self.search, &near, self.margin, &items)?;
+        let others = self.others.as_mut_slice();
+        let found = read_all_again(rt, alloc, &mut self.search, others, &near, &items)?;
         self.totals = counted(self.totals, &found);
         self.kept = kept;
         self.count += symbols.len() as u64;
@@ -186,6 +275,7 @@ impl<'r> SoftStream<'r> {
             gaps,
             margin,
             mut search,
+            others: _,
             kept,
             count,
             state,
@@ -193,22 +283,33 @@ impl<'r> SoftStream<'r> {
             history: _,
         } = self;
         let before = count - kept.len() as u64;
-        let near = near_of(alloc, gaps, before, &kept, &[])?;
-        let group = end_near(&mut search, &near, rules, margin, state);
+        let near = near_of(alloc, gaps, margin, before, &kept, &[])?;
+        let group = end_near(&mut search, &near, rules, state);
         Ok(soft_end_of(totals, group))
     }
 }
 
+/// Room for this number of searches.
+fn searches(alloc: Global, count: u32) -> Result<Vec<Search>, RdsError>
+    ensures { IsOkUnless result RdsError.OutOfMemory }
+{
+    let mut searches = Vec::new(alloc);
+    for _ in 0..count {
+        searches.push(Search::new(alloc)?)?;
+    }
+    Ok(searches)
+}
+
 /// The totals of these items too.
-fn counted(totals: SoftTotals, items: &[SoftItem]) -> SoftTotals
+fn counted(totals: SoftTotals, items: &SoftList) -> SoftTotals
     requires { (most : ℕ) × AreAtMost most totals × (most + 2 ^ 10 * length items.now < 2 ^ 64) }
     ensures value { (before : List AnItem) → totals ≡ soft_totals_of before → result ≡ soft_totals_of (before ++ items.now) }
     ensures small { (most : ℕ) → AreAtMost most totals → AreAtMost (most + 2 ^ 10 * length items.now) result }
 {
     soft_totals_join();
     let mut sum = totals;
-    for item in items {
-        sum = sum.plus(SoftTotals::of_item(item));
+    for i in 0..items.len() {
+        sum = sum.plus(SoftTotals::of_listed(&items.get(i)));
     }
     sum
 }

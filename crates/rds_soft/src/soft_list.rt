@@ -1,0 +1,118 @@
+//! Items that were read again, in little room.
+ghost use Rattle.std.specs.Prelude.{◌≡◌, ◌<◌, ◌==◌, ◌++◌, ◌∷◌, ◌+◌, ℕ, List, [], IfSome, None, OnOk, length, slice_index_or};
+ghost use Rattle.rds_soft.specs.{SoftLists.item_of, SoftLists.valid_group, declared.soft_item.SoftItem.SoftItem as AnItem, declared.soft_item.SoftItem.TheVariants.Group as InSoft};
+
+use crate::soft_item::SoftItem;
+use std::alloc::{AllocError, Global};
+use std::marker::Model;
+
+/// A group whose four blocks are valid, and whose block 3 has the offset of the version that block 2 names, as most groups are.
+#[derive(Clone, Copy, Debug, PartialEq, Eq)]
+pub struct ValidGroup {
+    /// The place of the first bit of block 1.
+    pub place: u64,
+    /// The information words of blocks 1 to 4.
+    pub words: [u16; 4],
+}
+
+/// An item of a list.
+#[derive(Clone, Copy, Debug, PartialEq, Eq)]
+pub enum Listed {
+    Valid(ValidGroup),
+    /// An acquisition, a loss or a group.
+    Other(SoftItem),
+}
+
+/// An item as it is kept.
+#[derive(Clone, Copy, Debug, PartialEq, Eq)]
+enum Entry {
+    Valid(ValidGroup),
+    /// Its place among the others.
+    At(usize),
+}
+
+/// Items that were read again, in order. A valid group takes 24 bytes, and any other item 24 more than a [`SoftItem`]. Contracts see
+/// the items.
+#[derive(Drop)]
+pub struct SoftList {
+    entries: Vec<Entry>,
+    others: Vec<SoftItem>,
+}
+
+impl Model for SoftList {
+    ghost use Rattle.std.specs.Prelude.{List, All, length};
+    ghost use Rattle.rds_soft.specs.declared.soft_item.SoftItem.{SoftItem};
+    ghost use Rattle.rds_soft.specs.Inside.Lists.{IsAmong, items_at};
+
+    ghost Value = { List SoftItem };
+
+    ghost view = { λ s. items_at s.others.items s.entries.items };
+
+    ghost invariant = { λ s. All (IsAmong (length s.others.items)) s.entries.items };
+}
+
+impl SoftList {
+    /// No items. Takes no memory.
+    pub fn new(alloc: Global) -> SoftList
+        ensures { result ≡ [] }
+    {
+        SoftList {
+            entries: Vec::new(alloc),
+            others: Vec::new(alloc),
+        }
+    }
+
+    /// How many items there are.
+    pub fn len(&self) -> usize
+        ensures { result ≡ length self.now }
+    {
+        self.entries.len()
+    }
+
+    /// Whether there is none.
+    pub fn is_empty(&self) -> bool
+        ensures { result ≡ (length self.now == 0) }
+    {
+        self.entries.is_empty()
+    }
+
+    /// Item number `i`, the first of which is 0.
+    pub fn get(&self, i: usize) -> Listed
+        requires { i < length self.now }
+        ensures { (other : AnItem) → item_of result ≡ slice_index_or self.now i other }
+    {
+        match self.entries[i] {
+            Entry::Valid(group) => Listed::Valid(group),
+            Entry::At(place) => Listed::Other(self.others[place]),
+        }
+    }
+
+    /// Appends a group of four valid blocks. Refused memory, it leaves the list as it was.
+    pub(crate) fn push_valid(&mut self, group: ValidGroup) -> Result<(), AllocError>
+        ensures { OnOk result (self.new ≡ self.old ++ InSoft (valid_group group) ∷ []) }
+    {
+        self.entries.push(Entry::Valid(group))
+    }
+
+    /// Appends any item.
+    pub(crate) fn push(&mut self, item: SoftItem) -> Result<(), AllocError>
+        ensures { OnOk result (self.new ≡ self.old ++ item ∷ []) }
+    {
+        let place = self.others.len();
+        self.others.push(item)?;
+        self.entries.push(Entry::At(place))
+    }
+
+    /// Appends the items of another list. Fails only if memory is refused.
+    pub fn append(&mut self, more: &SoftList) -> Result<(), AllocError>
+        ensures { OnOk result (self.new ≡ self.old ++ more.now) }
+    {
+        for i in 0..more.len() {
+            match more.get(i) {
+                Listed::Valid(group) => self.push_valid(group)?,
+                Listed::Other(item) => self.push(item)?,
+            }
+        }
+        Ok(())
+    }
+}
