@@ -1,8 +1,10 @@
 -- A list of items that were read again, which keeps a group of four valid blocks as its place and its information words: this project's
 -- rule. The calls of `SoftList` cite it.
 use Rattle.std.specs.Prelude.{ℕ, ◌-◌, [], ◌∷◌, slice_index_or}
-use Rattle.rds_code.specs.declared.offset.Offset.{Offset, TheVariants as offset}
-use Rattle.rds_sync.specs.{declared.item.Version.TheVariants as version, Groups.version_of_bit}
+use Rattle.rds_code.specs.declared.offset.Offset.{Offset}
+use Rattle.rds_code.specs.declared.offset.Offset.TheVariants as offset
+use Rattle.rds_sync.specs.declared.item.Version.TheVariants as version
+use Rattle.rds_sync.specs.Groups.{version_of_bit}
 use Rattle.rds_soft.specs.{SoftGroups.group_of, declared.soft_item.SoftBlock.SoftBlock, declared.soft_item.SoftBlock.TheVariants.Read, declared.soft_item.SoftGroup.SoftGroup, declared.soft_item.SoftItem.SoftItem, declared.soft_item.SoftItem.TheVariants.Group, declared.soft_list.Listed.Listed, declared.soft_list.Listed.TheVariants.Other, declared.soft_list.Listed.TheVariants.Valid, declared.soft_list.ValidGroup.ValidGroup, declared.soft_reading.SoftReading.TheVariants.Valid as ValidReading}
 
 -- the information word of block y

@@ -91,7 +91,7 @@ impl SoftList {
     pub(crate) fn push_valid(&mut self, group: ValidGroup) -> Result<(), AllocError>
         ensures { OnOk result (self.new ≡ self.old ++ InSoft (valid_group group) ∷ []) }
     {
-        self.entries.push(Entry::Valid(group))
+        Ok(self.entries.push(Entry::Valid(group))?)
     }
 
     /// Appends any item.
@@ -100,7 +100,7 @@ impl SoftList {
     {
         let place = self.others.len();
         self.others.push(item)?;
-        self.entries.push(Entry::At(place))
+        Ok(self.entries.push(Entry::At(place))?)
     }
 
     /// Appends the items of another list. Fails only if memory is refused.

@@ -1,5 +1,5 @@
 -- How a list keeps its items: entries in order, of which each but a valid group names its place among the others.
-use Rattle.std.specs.Prelude.{◌<◌, ℕ, List, map, slice_index_or, length}
+use Rattle.std.specs.Prelude.{◌<◌, ℕ, List, map, slice_index_or, ⊤}
 use Rattle.rds_soft.specs.{SoftLists.valid_group, declared.soft_item.SoftItem.SoftItem, declared.soft_item.SoftItem.TheVariants.Group, declared.soft_item.SoftItem.TheVariants.LostLock, declared.soft_list.Entry.Entry, declared.soft_list.Entry.TheVariants.At, declared.soft_list.Entry.TheVariants.Valid}
 
 abbrev pub item_at : List SoftItem → Entry → SoftItem
