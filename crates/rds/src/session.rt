@@ -209,7 +209,9 @@ fn follow_asked<C: Threads + Sync, S: Source, K: Sink>(
     let gaps = input.gaps.as_slice();
     match margin {
         None => follow(crew, alloc, reader, writer, rules, bits, gaps, workers),
-        Some(margin) => follow_soft(alloc, reader, writer, rules, margin, bits, gaps),
+        Some(margin) => follow_soft(
+            crew, alloc, reader, writer, rules, margin, bits, gaps, workers,
+        ),
     }
 }
 

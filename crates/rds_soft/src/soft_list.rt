@@ -95,7 +95,7 @@ impl SoftList {
     }
 
     /// Appends any item.
-    pub(crate) fn push(&mut self, item: SoftItem) -> Result<(), AllocError>
+    pub fn push(&mut self, item: SoftItem) -> Result<(), AllocError>
         ensures { OnOk result (self.new ≡ self.old ++ item ∷ []) }
     {
         let place = self.others.len();

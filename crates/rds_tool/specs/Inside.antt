@@ -2,6 +2,7 @@
 pub mod Counters
 pub mod Digits
 pub mod GroupLines
+pub mod HeldSymbols
 pub mod HexText
 pub mod Listers
 pub mod RowWriter
@@ -9,3 +10,4 @@ pub mod Rows
 pub mod Streams
 pub mod Texts
 pub mod Commands
+pub mod Takers

@@ -1,5 +1,5 @@
 //! Totals that are counted while the bytes of a recording come.
-ghost use Rattle.std.specs.Prelude.{◌++◌, ◌-◌, ◌<◌, ◌^◌, ◌≡◌, ◌≤◌, [], IfErr, IfOk, IsOkUnless, Some, length, slice_index};
+ghost use Rattle.std.specs.Prelude.{◌++◌, ◌-◌, ◌<◌, ◌^◌, ◌≡◌, ◌≤◌, [], IfErr, IfOk, IsOkUnless, Some, false, length, slice_index};
 ghost use Rattle.rds_stream.specs.Recording.{AreGaps, Signal};
 ghost use Rattle.rds_sync.specs.Report.{report_items};
 ghost use Rattle.rds_sync.specs.Totals.{totals_of};
@@ -202,7 +202,12 @@ impl<'a> InputCounter<'a> {
 impl<'a> Taker for InputCounter<'a> {
     ghost taken = { λ counter. counter.text };
 
-    ghost terms = { λ counter. Some (counter.input, counter.rules) };
+    ghost terms = { λ counter. Some (record {
+      input = counter.input;
+      rules = counter.rules;
+      margin = 0;
+      has_rows = false;
+    }) };
 
     fn take<R: Threads + Sync>(
         &mut self,

@@ -7,6 +7,7 @@ ghost use Rattle.rds_tool.specs.declared.task.Task.TheVariants as task;
 
 use crate::counting::InputCounter;
 use crate::group_lines::GroupLines;
+use crate::held_symbols::HeldSymbols;
 use crate::listing::totals_rows;
 use crate::taker::Taker;
 use crate::task::{Plan, Task, Text};
@@ -14,6 +15,7 @@ use crate::{Failed, Input, Job, Sink, Source};
 use rds_code::RdsError;
 use rds_crew::{Gate, OpenGate};
 use rds_live::may_have_gaps;
+use rds_soft::Margin;
 use std::alloc::{AllocError, Global};
 use std::thread::Threads;
 
@@ -98,6 +100,14 @@ fn transcribe_task<R: Threads + Sync, S: Source, K: Sink, G: Gate + Sync>(
                 transcribe_held(rt, alloc, reader, writer, Task::Totals(input, plan), gate)
             }
         }
+        Task::Soft(input, plan, margin, has_rows) => {
+            if may_have_gaps(input.gaps.as_slice()) {
+                transcribe_symbols(rt, alloc, reader, writer, &input, &plan, margin, has_rows)
+            } else {
+                let soft = Task::Soft(input, plan, margin, has_rows);
+                transcribe_held(rt, alloc, reader, writer, soft, gate)
+            }
+        }
         Task::Encode { hex } => transcribe_groups(rt, alloc, reader, writer, hex),
         held => transcribe_held(rt, alloc, reader, writer, held, gate),
     }
@@ -143,6 +153,29 @@ fn transcribe_totals<R: Threads + Sync, S: Source, K: Sink>(
     let totals = counter.finish(rt, alloc)?;
     let rows = totals_rows(alloc, &totals)?;
     Text::Whole(rows).write_to(rt, alloc, writer)
+}
+
+/// Decodes symbols while they come, and holds the items that are listed.
+fn transcribe_symbols<R: Threads + Sync, S: Source, K: Sink>(
+    rt: &R,
+    alloc: Global,
+    reader: &mut S,
+    writer: &mut K,
+    input: &Input,
+    plan: &Plan<'_>,
+    margin: Margin,
+    has_rows: bool,
+) -> Result<(), RdsError>
+    requires reads { S.failed reader.old < 2 ^ 63 }
+    requires writes { K.failed writer.old < 2 ^ 63 }
+    requires gaps { AreGaps (2 ^ 36) input.now.gaps }
+    ensures { (job : Job) → task_of job ≡ Ok (task.Soft input.now plan.now margin has_rows)
+        → IsTranscribed S.Source K.Sink job reader.old reader.new writer.old writer.new result }
+{
+    let mut symbols = HeldSymbols::new(alloc, input, plan, margin, has_rows)?;
+    read_all(rt, alloc, reader, &mut symbols)?;
+    let text = symbols.finish(alloc)?;
+    text.write_to(rt, alloc, writer)
 }
 
 /// Holds all bytes of the reader, and writes the text of the task.

@@ -73,15 +73,14 @@ mod task; // A job whose settings were looked at, and the text that it writes.
 mod making; // From a job to its task, and on to its text.
 mod plan; // Rules, workers and pieces.
 mod input; // From bytes to a recording.
-mod soft_source; // From bytes to symbols, and the recording of their bits.
 mod taker; // Where the bytes of a reader go.
 mod counting; // Totals that are counted as the bytes come.
 mod one_pass; // A list by one worker, written while it is decoded.
 mod lister; // The listing of its items.
-mod reading_again; // Items that are read again, by several workers.
-mod soft_lister; // The same of items that are read again.
+mod held_symbols; // Symbols that are decoded as they come.
 mod text; // The text that a task writes.
 mod listing_rows; // The rows of a report, from any on.
+mod soft_rows; // Those of a report that was read again.
 mod window_rows; // Those of a scan.
 mod listing; // The text of a list of items.
 mod rows; // Pages of rows.

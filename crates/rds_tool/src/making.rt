@@ -5,10 +5,11 @@ ghost use Rattle.rds_code.specs.Refusals.{IsMemoryOrErrOf};
 ghost use Rattle.rds_tool.specs.declared.task.Task.TheVariants as task;
 
 use crate::group_lines::GroupLines;
+use crate::held_symbols::{HeldSymbols, check_symbols};
 use crate::input::recording_of;
 use crate::listing::totals_rows;
 use crate::plan::report_by;
-use crate::soft_source::SoftSource;
+use crate::taker::Taker;
 use crate::task::{Listing, Plan, Task, Text, Workers};
 use crate::{Input, Job, Settings};
 use rds_code::RdsError;
@@ -81,7 +82,7 @@ impl<'a> Task<'a> {
                 Ok(Text::Groups(reader.finish()?, hex))
             }
             Task::Soft(input, plan, margin, rows) => {
-                soft_text_of(alloc, input, plan, margin, rows, held)
+                soft_text_of(rt, alloc, &input, &plan, margin, rows, held)
             }
         }
     }
@@ -147,18 +148,22 @@ fn totals_of<R: Threads + Sync, G: Gate + Sync>(
 }
 
 /// The listing of the symbols that the bytes are, or only its totals.
-fn soft_text_of<'a>(
+fn soft_text_of<'a, R: Threads + Sync>(
+    rt: &R,
     alloc: Global,
-    input: Input,
-    plan: Plan<'a>,
+    input: &Input,
+    plan: &Plan<'_>,
     margin: Margin,
-    rows: bool,
+    has_rows: bool,
     held: Vec<u8>,
 ) -> Result<Text<'a>, RdsError>
-    ensures ok { IfOk result (λ text. text_of_task (task.Soft input plan.entry margin rows) held.items
+    ensures ok { IfOk result (λ text. text_of_task (task.Soft input.now plan.now margin has_rows) held.items
         ≡ Ok (bytes_of text)) }
-    ensures refused { IfErr result (IsMemoryOrErrOf (text_of_task (task.Soft input plan.entry margin rows) held.items)) }
+    ensures refused { IfErr result (IsMemoryOrErrOf (text_of_task (task.Soft input.now plan.now margin has_rows) held.items)) }
 {
-    let source = SoftSource::of(alloc, input, margin, held)?;
-    Ok(Text::Soft(source, plan, rows))
+    check_symbols(input.bits, held.len() as u64)?;
+    let mut bytes = held;
+    let mut symbols = HeldSymbols::new(alloc, input, plan, margin, has_rows)?;
+    symbols.take(rt, alloc, bytes.as_mut_slice())?;
+    symbols.finish(alloc)
 }

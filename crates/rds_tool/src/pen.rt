@@ -3,13 +3,14 @@ ghost use Rattle.std.specs.Prelude.{◌+◌, ◌++◌, ◌≡◌, ◌≤◌, ◌
 ghost use Rattle.csv.specs.Writing.{default_writer, row_text};
 ghost use Rattle.rds_code.specs.Offsets.{name};
 ghost use Rattle.rds_sync.specs.declared.item.Item.TheVariants as AnItem;
+ghost use Rattle.rds_soft.specs.SoftLists.{valid_group};
 ghost use Rattle.rds_soft.specs.declared.soft_item.SoftItem.TheVariants as ASoftItem;
 ghost use Rattle.rds_tool.specs.{Soft.soft_block_text, Soft.soft_row, Listing.block_text, Listing.hex_digits, Listing.item_fields, Listing.item_row, Listing.kind_text, Listing.version_text, Listing.window_row, Listing.word_text, Inside.RowWriter.IsPlain};
 
 use crate::digits::{mask_digits, word_digits};
 use crate::page::Page;
 use rds_code::{Offset, Reading};
-use rds_soft::{SoftBlock, SoftGroup, SoftReading, mask_of};
+use rds_soft::{SoftBlock, SoftGroup, SoftReading, ValidGroup, mask_of};
 use rds_sync::{Block, Group, Version};
 
 impl Page {
@@ -50,6 +51,26 @@ impl Page {
         self.put_soft_block(two);
         self.put_soft_block(three);
         self.put_soft_block(four);
+        self.put_byte(b'\n');
+    }
+
+    /// Appends the row of a group of four valid blocks.
+    #[inline(always)]
+    pub fn push_valid_group(&mut self, group: &ValidGroup)
+        requires { length self.old + 168 ≤ 4096 }
+        ensures text { self.new ≡ self.old ++ soft_row (ASoftItem.Group (valid_group group.now)) }
+        ensures short { length self.new ≤ length self.old + 168 }
+    {
+        let [one, two, three, four] = group.words;
+        let is_b = (two >> 11) & 1 == 1;
+        self.put(*b"group,\0\0", 6);
+        self.put_number(group.place);
+        self.put_kind(Some((two >> 12) as u8));
+        self.put_version(if is_b { Version::B } else { Version::A }, false);
+        self.put_word(Offset::A, one);
+        self.put_word(Offset::B, two);
+        self.put_word(if is_b { Offset::Cx } else { Offset::C }, three);
+        self.put_word(Offset::D, four);
         self.put_byte(b'\n');
     }
 

@@ -1,14 +1,15 @@
 //! Rows of a listing, some on a page at a time.
-ghost use Rattle.std.specs.Prelude.{◌+◌, ◌++◌, ◌*◌, ◌<◌, ◌≡◌, ◌≤◌, [], All, OnErr, OnOk, length, map, take};
+ghost use Rattle.std.specs.Prelude.{◌+◌, ◌++◌, ◌*◌, ◌<◌, ◌≡◌, ◌≤◌, [], All, OnErr, OnOk, drop, length, map, take};
 ghost use Rattle.std.specs.List.{AllByRecursion, flat_map};
 ghost use Rattle.rds_sync.specs.declared.item.Item.TheVariants as AnItem;
+ghost use Rattle.rds_soft.specs.SoftLists.{item_of};
 ghost use Rattle.rds_tool.specs.{Listing.item_row, Listing.row, Listing.total_row, Soft.soft_row, Inside.RowWriter.IsBetween, Inside.RowWriter.IsPlain, Inside.RowWriter.IsShort};
 ghost use Rattle.csv.specs.Writing.{writer_under};
 
 use crate::page::{LONGEST_ROW, Page};
 use csv::{Error, Writer, WriterBuilder};
 use itoa::Buffer;
-use rds_soft::SoftItem;
+use rds_soft::{Listed, SoftItem, SoftList};
 use rds_sync::Item;
 use std::marker::Model;
 
@@ -72,7 +73,7 @@ impl RowWriter {
 
     /// Forgets the rows before, and writes those of these totals.
     pub fn write_totals(&mut self, totals: &[(&'static str, u64)])
-        requires few { length totals.now ≤ 12 }
+        requires few { length totals.now ≤ 18 }
         requires plain { All (λ total. IsPlain total.0.now) totals.now }
         requires short { All (λ total. IsShort total.0.now) totals.now }
         ensures rows { self.new ≡ flat_map total_row (map (λ total. (total.0.now, total.1)) totals.now) }
@@ -84,16 +85,39 @@ impl RowWriter {
         }
     }
 
-    /// Forgets the rows before, and writes that of an item that was read again.
-    pub fn write_soft_item(&mut self, item: &SoftItem)
-        ensures row { self.new ≡ soft_row item.now }
-        ensures short { length self.new ≤ 168 }
+    /// Forgets the rows before, and writes those of the items of a list from number `from` to before `to`, for as many as there is room.
+    /// Answers how many.
+    pub fn write_listed(&mut self, items: &SoftList, from: usize, to: usize) -> usize
+        requires order { from ≤ to }
+        requires inside { to ≤ length items.now }
+        ensures rows { self.new ≡ flat_map soft_row (take result (drop from items.now)) }
+        ensures short { length self.new ≤ result * 168 }
+        ensures some { from < to → 0 < result }
+        ensures few { from + result ≤ to }
     {
         self.page.clear();
+        let mut at = from;
+        while at < to && self.page.room() >= LONGEST_ROW {
+            self.push_listed(&items.get(at));
+            at += 1;
+        }
+        at - from
+    }
+
+    /// Appends the row of an item of a list.
+    #[inline(always)]
+    fn push_listed(&mut self, item: &Listed)
+        requires { length self.old + 168 ≤ 4096 }
+        ensures text { self.new ≡ self.old ++ soft_row (item_of item.now) }
+        ensures short { length self.new ≤ length self.old + 168 }
+    {
         match item {
-            SoftItem::Acquired { place, number } => self.push_acquired(*place, *number),
-            SoftItem::Group(group) => self.page.push_soft_group(group),
-            SoftItem::LostLock { place } => self.push_loss(*place),
+            Listed::Valid(group) => self.page.push_valid_group(group),
+            Listed::Other(SoftItem::Acquired { place, number }) => {
+                self.push_acquired(*place, *number);
+            }
+            Listed::Other(SoftItem::Group(group)) => self.page.push_soft_group(group),
+            Listed::Other(SoftItem::LostLock { place }) => self.push_loss(*place),
         }
     }
 

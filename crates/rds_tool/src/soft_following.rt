@@ -7,14 +7,16 @@ ghost use Rattle.rds_tool.specs.{Following.Follows, Following.IsLong, Following.
 
 use crate::engine::zeros;
 use crate::following::{check_claim, read_once};
+use crate::held_symbols::whole_list;
 use crate::rows::RowWriter;
+use crate::soft_rows::{push_listed, push_soft_totals};
 use crate::text::write_flushed;
-use crate::totals::{flips_with_names, totals_with_names};
 use crate::{Sink, Source};
 use rds_code::RdsError;
-use rds_soft::{Margin, SoftEnd, SoftItem, SoftStream, SoftTotals};
+use rds_soft::{Margin, SoftEnd, SoftList, SoftStream};
 use rds_sync::{Rules, laws};
 use std::alloc::{AllocError, Global};
+use std::thread::Threads;
 
 /// How many symbols a read asks for at most.
 const CHUNK: usize = 4096;
@@ -30,7 +32,8 @@ const CHUNK: usize = 4096;
 /// Refusals: `TooLong` past 2^36 bits, before anything is read if `bits` says so; `BitsPastBytes` if the input ends before `bits`;
 /// `BadGaps`, before anything is read if no recording may have such gaps, and else at the end; `Read` and `Write` if a device failed; and
 /// `OutOfMemory`. None takes back the text that was written. Reader and writer have counted fewer than 2^63 failures before.
-pub fn follow_soft<S: Source, K: Sink>(
+pub fn follow_soft<R: Threads + Sync, S: Source, K: Sink>(
+    rt: &R,
     alloc: Global,
     reader: &mut S,
     writer: &mut K,
@@ -38,6 +41,7 @@ pub fn follow_soft<S: Source, K: Sink>(
     margin: Margin,
     bits: Option<u64>,
     gaps: &[(u64, u64)],
+    workers: u32,
 ) -> Result<(), RdsError>
     requires reads { S.failed reader.old < 2 ^ 63 }
     requires writes { K.failed writer.old < 2 ^ 63 }
@@ -45,13 +49,14 @@ pub fn follow_soft<S: Source, K: Sink>(
         reader.old reader.new writer.old writer.new result }
 {
     laws::runs_are_reports();
-    let stream = follow_symbols(alloc, reader, writer, rules, margin, bits, gaps)?;
+    let stream = follow_symbols(rt, alloc, reader, writer, rules, margin, bits, gaps, workers)?;
     let rows = rows_of_end(alloc, stream, bits)?;
     write_flushed(writer, rows.as_slice())
 }
 
 /// Follows the symbols of a stream that count, to its end at most.
-fn follow_symbols<'r, S: Source, K: Sink>(
+fn follow_symbols<'r, R: Threads + Sync, S: Source, K: Sink>(
+    rt: &R,
     alloc: Global,
     reader: &mut S,
     writer: &mut K,
@@ -59,6 +64,7 @@ fn follow_symbols<'r, S: Source, K: Sink>(
     margin: Margin,
     bits: Option<u64>,
     gaps: &'r [(u64, u64)],
+    workers: u32,
 ) -> Result<SoftStream<'r>, RdsError>
     requires reads { S.failed reader.old < 2 ^ 63 }
     requires writes { K.failed writer.old < 2 ^ 63 }
@@ -74,7 +80,7 @@ fn follow_symbols<'r, S: Source, K: Sink>(
 {
     prove!(1 <= rules.reach());
     laws::runs_are_reports();
-    let (begun, mut buf) = begin(alloc, rules, margin, bits, gaps)?;
+    let (begun, mut buf) = begin(alloc, rules, margin, bits, gaps, workers)?;
     let mut stream = begun;
     'reads: loop {
         let room = symbols_left(bits, stream.count());
@@ -82,7 +88,7 @@ fn follow_symbols<'r, S: Source, K: Sink>(
         if count == 0 {
             break;
         }
-        follow_next(alloc, writer, &mut stream, &buf[..count])?;
+        follow_next(rt, alloc, writer, &mut stream, &buf[..count])?;
     }
     Ok(stream)
 }
@@ -94,6 +100,7 @@ fn begin<'r>(
     margin: Margin,
     bits: Option<u64>,
     gaps: &'r [(u64, u64)],
+    workers: u32,
 ) -> Result<(SoftStream<'r>, Vec<u8>), RdsError>
     ensures stream { IfOk result (λ begun. begun.0 ≡ record {
       terms = record { rules = rules.now; gaps = gaps.now; margin = margin };
@@ -107,7 +114,7 @@ fn begin<'r>(
         ⊎ ((error ≡ RdsError.TooLong) ⊎ (error ≡ RdsError.BadGaps))) }
 {
     check_claim(bits)?;
-    let stream = SoftStream::new(alloc, rules, gaps, margin)?;
+    let stream = SoftStream::new(alloc, rules, gaps, margin, workers)?;
     let buf = zeros(alloc, CHUNK)?;
     Ok((stream, buf))
 }
@@ -126,7 +133,8 @@ fn symbols_left(bits: Option<u64>, count: u64) -> usize
 }
 
 /// Takes the next symbols of a stream, and writes and flushes the rows that they complete.
-fn follow_next<K: Sink>(
+fn follow_next<R: Threads + Sync, K: Sink>(
+    rt: &R,
     alloc: Global,
     writer: &mut K,
     stream: &mut SoftStream<'_>,
@@ -153,12 +161,13 @@ fn follow_next<K: Sink>(
         ≡ soft_rows_so_far stream.old.terms stream.old.symbols ++ rows)
         × WritesPrefix (K.contents writer.old) (K.contents writer.new) (Ok rows) }
 {
-    let rows = rows_of_next(alloc, stream, symbols)?;
+    let rows = rows_of_next(rt, alloc, stream, symbols)?;
     write_flushed(writer, rows.as_slice())
 }
 
 /// Takes the next symbols of a stream, and makes the rows that they complete.
-fn rows_of_next(
+fn rows_of_next<R: Threads + Sync>(
+    rt: &R,
     alloc: Global,
     stream: &mut SoftStream<'_>,
     symbols: &[u8],
@@ -172,26 +181,11 @@ fn rows_of_next(
         → 2 ^ 36 + 1 < length stream.old.symbols + length symbols.now }
     ensures kinds { IfErr result (λ error. (error ≡ RdsError.OutOfMemory) ⊎ (error ≡ RdsError.TooLong)) }
 {
-    let items = stream.take(alloc, symbols)?;
+    let items = stream.take(rt, alloc, symbols)?;
     let mut rows = Vec::new(alloc);
-    push_soft_items(&mut RowWriter::new(), &mut rows, items.as_slice())?;
+    push_listed(&mut RowWriter::new(), &mut rows, &items)?;
     let _fits = stream.count();
     Ok(rows)
-}
-
-/// Appends the rows of these items.
-fn push_soft_items(
-    pen: &mut RowWriter,
-    text: &mut Vec<u8>,
-    items: &[SoftItem],
-) -> Result<(), AllocError>
-    ensures { OnOk result (text.new.items ≡ text.old.items ++ flat_map soft_row items.now) }
-{
-    for item in items {
-        pen.write_soft_item(item);
-        text.extend_from_slice(pen.as_bytes())?;
-    }
-    Ok(())
 }
 
 /// The rest of the listing of a stream that ends here: the row of the group in progress, if there is one, and those of the totals.
@@ -237,23 +231,8 @@ fn rows_to_end(alloc: Global, end: &SoftEnd) -> Result<Vec<u8>, AllocError>
 {
     let mut rows = Vec::new(alloc);
     let mut pen = RowWriter::new();
-    if let Some(group) = end.group {
-        push_soft_items(&mut pen, &mut rows, [SoftItem::Group(group)].as_slice())?;
-    }
+    let last = whole_list(SoftList::new(alloc), end)?;
+    push_listed(&mut pen, &mut rows, &last)?;
     push_soft_totals(&mut pen, &mut rows, &end.totals)?;
     Ok(rows)
-}
-
-/// Appends the rows of all totals.
-fn push_soft_totals(
-    pen: &mut RowWriter,
-    text: &mut Vec<u8>,
-    totals: &SoftTotals,
-) -> Result<(), AllocError>
-    ensures { OnOk result (text.new.items ≡ text.old.items ++ soft_totals_text totals.now) }
-{
-    pen.write_totals(totals_with_names(&totals.totals).as_slice());
-    text.extend_from_slice(pen.as_bytes())?;
-    pen.write_totals(flips_with_names(totals).as_slice());
-    text.extend_from_slice(pen.as_bytes())
 }

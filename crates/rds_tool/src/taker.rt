@@ -1,7 +1,6 @@
 //! Where the bytes of a reader go.
 ghost use Rattle.std.specs.{Prelude.◌++◌, Prelude.◌≡◌, Prelude.List, Prelude.None, Prelude.OnOk, Prelude.Option, Prelude.ℕ, Thread.IsSync};
-ghost use Rattle.rds_sync.specs.Rules.{RuleNumbers};
-ghost use Rattle.rds_tool.specs.InputOf.{InputOf};
+ghost use Rattle.rds_tool.specs.Inside.Takers.{TakerTerms};
 
 use std::alloc::{AllocError, Global};
 use std::thread::Threads;
@@ -11,8 +10,8 @@ pub trait Taker {
     /// The bytes that were taken.
     ghost taken: { Self → List ℕ };
 
-    /// The input and the rules by which they are counted, if they are.
-    ghost terms: { Self → Option (InputOf × RuleNumbers) };
+    /// How they are taken, if they are decoded as they come.
+    ghost terms: { Self → Option TakerTerms };
 
     /// Takes these bytes, whose room it may write over.
     fn take<R: Threads + Sync>(

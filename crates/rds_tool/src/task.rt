@@ -1,9 +1,8 @@
 //! A job whose settings were looked at, and the text that it writes.
 ghost use Rattle.std.specs.Prelude.{◌≡◌};
 
-use crate::soft_source::SoftSource;
 use crate::{Cuts, Input};
-use rds_soft::Margin;
+use rds_soft::{Margin, SoftList, SoftTotals};
 use rds_stream::Recording;
 use rds_sync::{Report, Rules};
 use std::marker::Model;
@@ -62,8 +61,8 @@ pub enum Text<'a> {
     Windows(Recording, Workers),
     /// Groups that are encoded while they are written, with `hex` as lines of digits.
     Groups(Vec<[u16; 4]>, bool),
-    /// Symbols whose report is read again while their bits are decoded, and whether the rows of its items are written.
-    Soft(SoftSource, Plan<'a>, bool),
+    /// A report that was read again, and its totals.
+    Soft(SoftList, SoftTotals),
 }
 
 /// A report and the source of its items.

@@ -2,7 +2,7 @@
 ghost use Rattle.std.specs.Prelude.{◌<◌, ◌≤◌, ◌^◌, ◌≡◌, ◌≢◌, ◌↔◌, ◌⊎◌, IfErr, IsErrOf, IsOkUnless, Ok, OnErr, OnOk, true};
 ghost use Rattle.std.specs.Io.KnownBytes.{Appends, Keeps};
 ghost use Rattle.rds_rows.specs.Written.{IsWritten};
-ghost use Rattle.rds_tool.specs.{Inside.Texts.bytes_of, Outcome.WritesPrefix, Outcome.list_text, Soft.soft_text};
+ghost use Rattle.rds_tool.specs.{Inside.Texts.bytes_of, Outcome.WritesPrefix, Outcome.list_text};
 
 use crate::encode::GroupRows;
 use crate::lister::HardLister;
@@ -10,8 +10,7 @@ use crate::listing::Heard;
 use crate::listing_rows::ListingRows;
 use crate::one_pass::write_in_one_pass;
 use crate::plan::busy_workers;
-use crate::soft_lister::SoftLister;
-use crate::soft_source::SoftSource;
+use crate::soft_rows::SoftRows;
 use crate::task::{Plan, Text};
 use crate::window_rows::WindowRows;
 use rds_code::RdsError;
@@ -92,8 +91,9 @@ fn write_bytes<R: Threads + Sync, K: Sink>(
             };
             write_rows(rt, alloc, &rows, 1, GROUPS, writer)
         }
-        Text::Soft(source, plan, has_rows) => {
-            write_softly(rt, alloc, source, plan, *has_rows, writer)
+        Text::Soft(items, totals) => {
+            let rows = SoftRows::new(items, totals)?;
+            write_rows(rt, alloc, &rows, 1, PART, writer)
         }
     }
 }
@@ -113,32 +113,6 @@ fn write_decoded<R: Threads + Sync, K: Sink>(
 {
     let mut lister = HardLister::new();
     write_in_one_pass(rt, alloc, recording, plan.rules(), &mut lister, writer)
-}
-
-/// Writes the listing or the totals of symbols, as [`write_decoded`] does.
-#[inline(never)]
-fn write_softly<R: Threads + Sync, K: Sink>(
-    rt: &R,
-    alloc: Global,
-    source: &SoftSource,
-    plan: &Plan<'_>,
-    has_rows: bool,
-    writer: &mut K,
-) -> Result<(), RowsError>
-    requires { K.failed writer.old < 2 ^ 63 }
-    ensures { IsWritten K.contents K.failed
-        (soft_text has_rows plan.now.rules source.now.margin source.now.symbols.items source.now.recording)
-        writer.old writer.new result }
-{
-    let mut lister = SoftLister::new(alloc, source, has_rows, plan.workers())?;
-    write_in_one_pass(
-        rt,
-        alloc,
-        &source.recording,
-        plan.rules(),
-        &mut lister,
-        writer,
-    )
 }
 
 /// Writes a text that is made.

@@ -1,0 +1,28 @@
+-- What is known of symbols that are decoded as they come. `HeldSymbols` cites it, and no public call.
+use Rattle.std.specs.Prelude.{◌+◌, ◌-◌, ◌^◌, ◌≡◌, Bool, List, None, Ok, Option, Result, Some, length, min, take, true, ℕ}
+use Rattle.rds_code.specs.declared.error.RdsError.{RdsError}
+use Rattle.rds_soft.specs.SoftStream.{SoftHeard, complete}
+use Rattle.rds_soft.specs.declared.soft_item.SoftItem.{SoftItem}
+use Rattle.rds_tool.specs.{Input.and_then, Inside.Takers.TakerTerms, Soft.recording_of_symbols, Soft.soft_text}
+
+-- how many symbols count: one more than the bits that are claimed, and no more than a recording may have
+abbrev pub most_heard : Option ℕ → ℕ
+most_heard None = 2 ^ 36 + 1
+most_heard (Some bits) = min bits (2 ^ 36) + 1
+
+-- the terms, and the symbols that came
+pub record HeldOf : Type 0 where
+  pub terms : TakerTerms
+  pub symbols : List ℕ
+
+-- the stream has heard the symbols that count, and the items that these complete are listed, if rows are
+pub record IsHeld (stream : SoftHeard) (bits : Option ℕ) (has_rows : Bool) (items : List SoftItem) (count : ℕ) (symbols : List ℕ) : Type 0 where
+  pub heard : stream.symbols ≡ take (most_heard bits) symbols
+  pub counts : count ≡ min (length symbols) (2 ^ 64 - 1)
+  pub listed : has_rows ≡ true → items ≡ complete stream.terms stream.symbols
+
+-- the text of these symbols, or their refusal
+abbrev pub text_of_held : HeldOf → Result (List ℕ) RdsError
+text_of_held held =
+    and_then (recording_of_symbols held.terms.input held.symbols)
+    (λ recording. Ok (soft_text held.terms.has_rows held.terms.rules held.terms.margin held.symbols recording))
