@@ -77,6 +77,7 @@ impl SoftList {
     }
 
     /// Item number `i`, the first of which is 0.
+    #[inline(always)]
     pub fn get(&self, i: usize) -> Listed
         requires { i < length self.now }
         ensures { (other : AnItem) → item_of result ≡ slice_index_or self.now i other }
@@ -88,6 +89,7 @@ impl SoftList {
     }
 
     /// Appends a group of four valid blocks. Refused memory, it leaves the list as it was.
+    #[inline(always)]
     pub(crate) fn push_valid(&mut self, group: ValidGroup) -> Result<(), AllocError>
         ensures { OnOk result (self.new ≡ self.old ++ InSoft (valid_group group) ∷ []) }
     {

@@ -1,5 +1,14 @@
 -- The row of a group, put together field by field.
-use Rattle.rds_tool.proofs.Names.{common_steps, arith, ◌++◌, ◌∙◌, ◌∷◌, ◌≡◌, List, [], ap, append_assoc, codes, ℕ, row}
+use mathlib.Core.Path.{ap₂}
+use Rattle.rds_code.specs.declared.offset.Offset.TheVariants as offset
+use Rattle.rds_soft.specs.SoftLists.{third_offset, valid_group, word}
+use Rattle.rds_soft.specs.declared.soft_item.SoftItem.TheVariants.{Group}
+use Rattle.rds_soft.specs.declared.soft_list.ValidGroup.{ValidGroup}
+use Rattle.rds_sync.specs.Groups.{differ, type_in, version_of_bit, version_of_offset}
+use Rattle.rds_sync.specs.declared.item.Version.{Version}
+use Rattle.rds_tool.specs.Listing.{kind_text, version_text, word_text}
+use Rattle.std.proofs.Common.{Some}
+use Rattle.rds_tool.proofs.Names.{common_steps, arith, Bool, decimal, false, soft_row, sym, ◌++◌, ◌∙◌, ◌∷◌, ◌≡◌, List, [], ap, append_assoc, codes, ℕ, row}
 
 module _ (whole : List ℕ) where
   -- the last field, and the line feed
@@ -27,3 +36,19 @@ module _ (whole : List ℕ) where
       let after2 = next_field s2 s3 k v (a ∷ b ∷ c ∷ e ∷ []) e3 after3 in
       let after1 = one_field s1 s2 d k (v ∷ a ∷ b ∷ c ∷ e ∷ []) e2 after2 in
       after1 ∙ ap (λ t. t ++ row (d ∷ k ∷ v ∷ a ∷ b ∷ c ∷ e ∷ [])) e1 ∙ append_assoc old (codes "group,") (row (d ∷ k ∷ v ∷ a ∷ b ∷ c ∷ e ∷ []))
+
+-- a group of four valid blocks, whose block 3 has the offset of the version that block 2 names
+valid-version : (second : ℕ) → version_of_offset (third_offset second) ≡ version_of_bit second
+valid-version second = grind (arith, common_steps)
+
+never-differ : (second : ℕ) → differ (version_of_bit second) (version_of_offset (third_offset second)) ≡ false
+never-differ second = grind (arith, common_steps)
+
+pub valid-row : (g : ValidGroup)
+    → row (codes "group" ∷ decimal g.place ∷ kind_text (Some (type_in (word g 2))) ∷ version_text (version_of_bit (word g 2)) false
+    ∷ word_text offset.A (word g 1) ∷ word_text offset.B (word g 2) ∷ word_text (third_offset (word g 2)) (word g 3) ∷ word_text offset.D (word g 4) ∷ [])
+    ≡ soft_row (Group (valid_group g))
+valid-row g =
+    let rest : List (List ℕ) = word_text offset.A (word g 1) ∷ word_text offset.B (word g 2) ∷ word_text (third_offset (word g 2)) (word g 3) ∷ word_text offset.D (word g 4) ∷ [] in
+    ap₂ (λ (v : Version) (b : Bool). row (codes "group" ∷ decimal g.place ∷ kind_text (Some (type_in (word g 2))) ∷ version_text v b ∷ rest))
+    (sym (valid-version (word g 2))) (sym (never-differ (word g 2)))

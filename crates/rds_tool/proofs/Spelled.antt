@@ -1,5 +1,6 @@
 -- Rows that are spelled from one number up to another.
-use Rattle.rds_tool.proofs.Names.{◌+◌, ◌++◌, ◌-◌, ◌∙◌, ◌∷◌, ◌≡◌, ◌<◌, ◌≤◌, Bor, List, [], ap, ap₂, append_assoc, arith, drop, get_or, length, map, min, refl, suc, sym, take, zero, ℕ, All, AllByRecursion, concat, flat_map, join_with_byte, common_steps, flat_map-append, append-nil, drop-map, take-append-drop, take_more, take_rest, All-drop, All-take, concat-append, IsShort, length-drop, slice_index_or}
+use Rattle.rds_tool.proofs.Names.{◌+◌, ◌++◌, ◌-◌, ◌∙◌, ◌∷◌, ◌≡◌, ◌<◌, ◌≤◌, Bor, List, [], ap, ap₂, append_assoc, arith, drop, get_or, length, map, min, refl, suc, sym, take, zero, ℕ, All, AllByRecursion, concat, flat_map, join_with_byte, common_steps, flat_map-append, append-nil, drop-map, drop_more, take-append-add, take-append-drop, take_more, take_rest, All-drop, All-take, concat-append, IsShort, length-drop, length-take, slice_index_or}
+use Rattle.std.proofs.Common.{drop-drop}
 
 module _ {A : Type 0} where
   drop_past : (xs ys : List A) (n : ℕ) → length xs ≤ n → drop n (xs ++ ys) ≡ drop (n - length xs) ys
@@ -30,7 +31,7 @@ pub all_spelled : {X Y : Type 0} (f : X → List ℕ) (g : Y → List ℕ) (xs :
 all_spelled f g xs ys = concat-append (map f xs) (map g ys) ∙ ap₂ (λ s t. s ++ t) (concat-map f xs) (concat-map g ys)
 
 -- the rows of two lists from one number up to another
-two_lists : {A : Type 0} (xs ys : List A) (from to a b : ℕ) → from ≤ to → a ≡ min from (length xs) → b ≡ min to (length xs)
+pub two_lists : {A : Type 0} (xs ys : List A) (from to a b : ℕ) → from ≤ to → a ≡ min from (length xs) → b ≡ min to (length xs)
     → take (to - from) (drop from (xs ++ ys)) ≡ take (b - a) (drop a xs) ++ take ((to - b) - (from - a)) (drop (from - a) ys)
 two_lists xs ys from to a b order p q =
     let behind = λ (h : length xs ≤ from). drop_past xs ys from h in
@@ -91,6 +92,32 @@ rows_more f old new page left count added first =
     ∙ ap (λ t. t ++ flat_map f (drop count left)) (added ∙ ap (λ p. old ++ p) first)
     ∙ append_assoc old (flat_map f (take count left)) (flat_map f (drop count left))
     ∙ ap (λ t. old ++ t) (sym (flat_map-append f (take count left) (drop count left)) ∙ ap (flat_map f) (take-append-drop count left))
+
+take_next : {X : Type 0} (m n : ℕ) (ys : List X) → m ≤ length ys → take (m + n) ys ≡ take m ys ++ take n (drop m ys)
+take_next m n ys h =
+    let long : m ≡ length (take m ys) = omega (arith, h, length-take m ys) in
+    ap (take (m + n)) (sym (take-append-drop m ys)) ∙ ap (λ (k : ℕ). take (k + n) (take m ys ++ drop m ys)) long ∙ take-append-add (take m ys) (drop m ys) n
+
+-- the rows of some items, and then those of the next
+pub rows_next : {X : Type 0} (f : X → List ℕ) (old new page : List ℕ) (xs : List X) (from done count : ℕ) → from ≤ done → done ≤ length xs
+    → new ≡ old ++ flat_map f (take (done - from) (drop from xs)) → page ≡ flat_map f (take count (drop done xs))
+    → new ++ page ≡ old ++ flat_map f (take (done + count - from) (drop from xs))
+rows_next f old new page xs from done count order within some next =
+    let ys = drop from xs in
+    let m : ℕ = done - from in
+    let at : drop done xs ≡ drop m ys = ap (λ (k : ℕ). drop k xs) (let sum : done ≡ from + m = omega (arith, order) in sum) ∙ sym (drop-drop m from xs) in
+    let sum : m + count ≡ done + count - from = omega (arith, order) in
+    ap₂ (λ (s t : List ℕ). s ++ t) some (next ∙ ap (λ zs. flat_map f (take count zs)) at)
+    ∙ append_assoc old (flat_map f (take m ys)) (flat_map f (take count (drop m ys)))
+    ∙ ap (λ t. old ++ t)
+    (sym (flat_map-append f (take m ys) (take count (drop m ys))) ∙ ap (flat_map f) (sym (take_next m count ys (omega (arith, within, order, length-drop from xs)))) ∙ ap (λ (k : ℕ). flat_map f (take k ys)) sum)
+
+-- the row of an item more
+pub row_next : {X : Type 0} (f : X → List ℕ) (text : List ℕ) (xs : List X) (from at : ℕ) (x d : X) → from ≤ at → at < length xs
+    → text ≡ flat_map f (take (at - from) (drop from xs)) → x ≡ get_or xs at d → text ++ f x ≡ flat_map f (take (at + 1 - from) (drop from xs))
+row_next f text xs from at x d order within is same =
+    let one : take 1 (drop at xs) ≡ x ∷ [] = ap (take 1) (drop_more xs at d within) ∙ ap (λ y. y ∷ []) (sym same) in
+    rows_next f [] text (f x) xs from at 1 order (omega (arith, within)) is (sym (append-nil (f x)) ∙ ap (flat_map f) (sym one))
 
 -- the steps of functions that need no answer
 pub ruleset row_steps = (common_steps, append_assoc, rows_more, take_rest, length-drop, spelled)

@@ -51,7 +51,7 @@ pub fn fill_items(rows: &mut RowWriter, items: &[Item], sheet: &mut Sheet)
 
 /// Adds the rows of these totals to a sheet.
 pub fn fill_totals(rows: &mut RowWriter, totals: &[(&'static str, u64)], sheet: &mut Sheet)
-    requires few { length totals.now ≤ 18 }
+    requires few { length totals.now ≤ 12 }
     requires plain { All (λ total. IsPlain total.0.now) totals.now }
     requires short { All (λ total. IsShort total.0.now) totals.now }
     requires room { length totals.now ≤ left_of sheet.old }

@@ -3,7 +3,8 @@ ghost use Rattle.std.specs.Prelude.{◌+◌, ◌++◌, ◌≡◌, ◌≤◌, ◌
 ghost use Rattle.csv.specs.Writing.{default_writer, row_text};
 ghost use Rattle.rds_code.specs.Offsets.{name};
 ghost use Rattle.rds_sync.specs.declared.item.Item.TheVariants as AnItem;
-ghost use Rattle.rds_soft.specs.SoftLists.{valid_group};
+ghost use Rattle.rds_soft.specs.SoftLists.{third_offset, valid_group};
+ghost use Rattle.rds_sync.specs.Groups.{version_of_bit};
 ghost use Rattle.rds_soft.specs.declared.soft_item.SoftItem.TheVariants as ASoftItem;
 ghost use Rattle.rds_tool.specs.{Soft.soft_block_text, Soft.soft_row, Listing.block_text, Listing.hex_digits, Listing.item_fields, Listing.item_row, Listing.kind_text, Listing.version_text, Listing.window_row, Listing.word_text, Inside.RowWriter.IsPlain};
 
@@ -62,14 +63,14 @@ impl Page {
         ensures short { length self.new ≤ length self.old + 168 }
     {
         let [one, two, three, four] = group.words;
-        let is_b = (two >> 11) & 1 == 1;
+        let (version, third) = version_and_third(two);
         self.put(*b"group,\0\0", 6);
         self.put_number(group.place);
         self.put_kind(Some((two >> 12) as u8));
-        self.put_version(if is_b { Version::B } else { Version::A }, false);
+        self.put_version(version, false);
         self.put_word(Offset::A, one);
         self.put_word(Offset::B, two);
-        self.put_word(if is_b { Offset::Cx } else { Offset::C }, three);
+        self.put_word(third, three);
         self.put_word(Offset::D, four);
         self.put_byte(b'\n');
     }
@@ -215,6 +216,19 @@ impl Page {
             [letter, mark] => self.put([b',', *letter, *mark, b':', one, two, three, four], 8),
             _ => unreachable!(),
         }
+    }
+}
+
+/// The version that the information word of block 2 names, and the offset of block 3 in it.
+#[inline(always)]
+fn version_and_third(second: u16) -> (Version, Offset)
+    ensures version { result.0 ≡ version_of_bit second }
+    ensures third { result.1 ≡ third_offset second }
+{
+    if (second >> 11) & 1 == 0 {
+        (Version::A, Offset::C)
+    } else {
+        (Version::B, Offset::Cx)
     }
 }
 

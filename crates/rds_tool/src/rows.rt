@@ -73,7 +73,7 @@ impl RowWriter {
 
     /// Forgets the rows before, and writes those of these totals.
     pub fn write_totals(&mut self, totals: &[(&'static str, u64)])
-        requires few { length totals.now ≤ 18 }
+        requires few { length totals.now ≤ 12 }
         requires plain { All (λ total. IsPlain total.0.now) totals.now }
         requires short { All (λ total. IsShort total.0.now) totals.now }
         ensures rows { self.new ≡ flat_map total_row (map (λ total. (total.0.now, total.1)) totals.now) }

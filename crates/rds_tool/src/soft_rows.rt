@@ -6,13 +6,14 @@ ghost use Rattle.rds_tool.specs.{Listing.total_row, Soft.soft_row, Soft.soft_tot
 use crate::listing::fill_totals;
 use crate::page::LONGEST_ROW;
 use crate::rows::RowWriter;
-use crate::totals::soft_totals_with_names;
+use crate::totals::{flips_with_names, totals_with_names};
 use rds_rows::{Rows, RowsError, Sheet};
 use rds_soft::{SoftList, SoftTotals};
 use std::alloc::AllocError;
 
-/// How many totals there are.
+/// How many totals there are, of which the first are those of any listing.
 const TOTALS: usize = 18;
+const HARD: usize = 12;
 
 /// The rows of the items of a list, and then those of these totals.
 #[derive(Drop)]
@@ -70,11 +71,12 @@ impl<'a> SoftRows<'a> {
         ensures left { left_of sheet.new + (to - from) ≡ left_of sheet.old }
         ensures size { size_of sheet.new ≡ size_of sheet.old }
     {
-        if from == to {
-            return;
-        }
-        let all = soft_totals_with_names(self.totals);
-        fill_totals(&mut RowWriter::new(), &all[from..to], sheet);
+        let hard = totals_with_names(&self.totals.totals);
+        let flips = flips_with_names(self.totals);
+        let (first, last) = (from.min(HARD), to.min(HARD));
+        let mut rows = RowWriter::new();
+        fill_totals(&mut rows, &hard[first..last], sheet);
+        fill_totals(&mut rows, &flips[from - first..to - last], sheet);
     }
 }
 
@@ -129,6 +131,8 @@ pub fn push_soft_totals(
 ) -> Result<(), AllocError>
     ensures { OnOk result (text.new.items ≡ text.old.items ++ soft_totals_text totals.now) }
 {
-    rows.write_totals(soft_totals_with_names(totals).as_slice());
+    rows.write_totals(totals_with_names(&totals.totals).as_slice());
+    text.extend_from_slice(rows.as_bytes())?;
+    rows.write_totals(flips_with_names(totals).as_slice());
     text.extend_from_slice(rows.as_bytes())
 }

@@ -1,6 +1,6 @@
 //! The totals by name.
 ghost use Rattle.std.specs.Prelude.{◌≡◌, All, map};
-ghost use Rattle.rds_tool.specs.{Listing.named_totals, Inside.Rows.named_soft_totals, Inside.RowWriter.IsPlain, Inside.RowWriter.IsShort};
+ghost use Rattle.rds_tool.specs.{Listing.named_totals, Soft.named_flips, Inside.RowWriter.IsPlain, Inside.RowWriter.IsShort};
 
 use rds_soft::SoftTotals;
 use rds_sync::Totals;
@@ -27,27 +27,13 @@ pub fn totals_with_names(totals: &Totals) -> [(&'static str, u64); 12]
     ]
 }
 
-/// The twelve totals, and then those of corrections by flips, each with its name.
-pub fn soft_totals_with_names(totals: &SoftTotals) -> [(&'static str, u64); 18]
-    ensures named { map (λ total. (total.0.now, total.1)) result ≡ named_soft_totals totals.now }
+/// The totals of corrections by flips, each with its name.
+pub fn flips_with_names(totals: &SoftTotals) -> [(&'static str, u64); 6]
+    ensures named { map (λ total. (total.0.now, total.1)) result ≡ named_flips totals.now }
     ensures plain { All (λ total. IsPlain total.0.now) result }
     ensures short { All (λ total. IsShort total.0.now) result }
 {
-    let [valid, burst1, burst2, burst3, burst4, burst5, lost, bits, groups, complete, acquired, losses] =
-        totals_with_names(&totals.totals);
     [
-        valid,
-        burst1,
-        burst2,
-        burst3,
-        burst4,
-        burst5,
-        lost,
-        bits,
-        groups,
-        complete,
-        acquired,
-        losses,
         ("soft1", totals.flipped[0]),
         ("soft2", totals.flipped[1]),
         ("soft3", totals.flipped[2]),
