@@ -1,9 +1,10 @@
 use Rattle.rds_tool.proofs.Names.{common_steps, arith, ◌≡◌, ◌∙◌, Err, List, Ok, Some, ap, inl, subst, sym, ℕ, report_items, RuleNumbers, totals_of, recording_of, InputOf, InputCounterOf, text_of_task, PlanOf, IsMemoryOrErrOf, RdsError}
 use Rattle.rds_tool.proofs.{Passing.passed, Texts.any_cut, Texts.no_failure, Texts.totals_made, Transcribing.at_bytes, Transcribing.at_memory, Transcribing.at_read, Transcribing.at_writer, engine.transcribe_totals.Given.Over, engine.transcribe_totals.Goals.In_ok-read_all}
+use Rattle.rds_tool.specs.Inside.Takers.{TakerTerms}
 use Rattle.rds_tool.specs.declared.task.Task.TheVariants as task
 use Rattle.rds_tool.proofs.engine.transcribe_totals.Goals as goal
 
-same_terms : (a b : InputOf × RuleNumbers) → Some a ≡ Some b → a ≡ b
+same_terms : (a b : TakerTerms) → Some a ≡ Some b → a ≡ b
 same_terms a b p = cc
 
 refused : (input : InputOf) (text : List ℕ) (e : RdsError) → IsMemoryOrErrOf (recording_of input text) e → (plan : PlanOf)
@@ -12,10 +13,10 @@ refused input text e it plan = grind (arith, common_steps)
 
 module _ (g : Over) (c : In_ok-read_all g) where
   input : c.read_all.new.taker.input ≡ c.args.input.now
-  input = ap (λ (t : InputOf × RuleNumbers). t.0) (same_terms _ _ c.in_ok-read_all.ensures.terms) ∙ ap (λ (t : InputCounterOf). t.input) c.in_ok-counter.ensures.new
+  input = ap (λ (t : TakerTerms). t.input) (same_terms _ _ c.in_ok-read_all.ensures.terms) ∙ ap (λ (t : InputCounterOf). t.input) c.in_ok-counter.ensures.new
 
   rules_are : c.read_all.new.taker.rules ≡ c.args.plan.now.rules
-  rules_are = ap (λ (t : InputOf × RuleNumbers). t.1) (same_terms _ _ c.in_ok-read_all.ensures.terms) ∙ ap (λ (t : InputCounterOf). t.rules) c.in_ok-counter.ensures.new ∙ c.rules.ensures
+  rules_are = ap (λ (t : TakerTerms). t.rules) (same_terms _ _ c.in_ok-read_all.ensures.terms) ∙ ap (λ (t : InputCounterOf). t.rules) c.in_ok-counter.ensures.new ∙ c.rules.ensures
 
 pub returns-in_err-counter : goal.returns-in_err-counter
 returns-in_err-counter g c = λ job is.
