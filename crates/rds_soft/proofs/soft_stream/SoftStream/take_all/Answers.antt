@@ -16,6 +16,9 @@ run_near-requires-clause-order g c = grind (arith, part-longer c.self.invariant 
 
 pub read_all_again-requires-clause-places : goal.read_all_again-requires-clause-places
 read_all_again-requires-clause-places g c =
+   let thegoal = c in ? 
+
+foo c =
     let know = c.self.invariant in
     let symbols : List ℕ = c.self.inside.history.bytes in
     let more : List ℕ = c.args.symbols.now in
@@ -108,11 +111,12 @@ module _ (g : Over) (c : In_ok-found g) where
       )
 
 pub counted-self-inside-requires : goal.counted-self-inside-requires
-counted-self-inside-requires g c = (
-  2 ^ 11 * length (symbols g c),
-  c.self.invariant.small,
-  omega (arith, few g c, fits g c),
-)
+counted-self-inside-requires g c =
+    let n = (goal.at.counted-self-inside-requires g c).In_ok-found in (
+      2 ^ 11 * length (symbols g n),
+      c.self.invariant.small,
+      omega (arith, few g n, fits g n),
+    )
 
 pub invariant_of-self-2 : goal.invariant_of-self-2
 invariant_of-self-2 g c =
