@@ -1,6 +1,6 @@
 -- Lists of items in little room.
-use Rattle.rds_soft.proofs.Names.{◌≡◌, ◌++◌, ◌+◌, ◌<◌, ◌∷◌, ◌∙◌, common_steps, ℕ, List, [], ap, ap₂, arith, get_or_append_left, length, map, map-append, refl, sym, take, take_more, append_assoc, All, All-head, All-push, All-tail, All-weaker, slice_index_or, SoftItem, SoftLostLock, Signal, Block, Offset, HardValid, Read, A, B, D, ℤ, InSoft, group_again, moved_again, get_or_push}
-use Rattle.rds_soft.specs.{SoftLists.third_offset, SoftLists.valid_group, Inside.Lists.IsAmong, Inside.Lists.item_at, Inside.Lists.items_at, declared.soft_list.Entry.Entry, declared.soft_list.Entry.TheVariants.At, declared.soft_list.Entry.TheVariants.Valid, declared.soft_list.ValidGroup.ValidGroup}
+use Rattle.rds_soft.proofs.Names.{◌≡◌, ◌++◌, ◌+◌, ◌<◌, ◌∷◌, ◌∙◌, ℕ, List, [], ap, ap₂, arith, get_or_append_left, length, map-append, refl, sym, take, take_more, append_assoc, All, All-head, All-tail, All-weaker, slice_index_or, SoftItem, SoftLostLock, Signal, Block, HardValid, Read, A, B, D, ℤ, InSoft, group_again, moved_again, get_or_push}
+use Rattle.rds_soft.specs.{SoftLists.third_offset, SoftLists.valid_group, Inside.Lists.IsAmong, Inside.Lists.item_at, Inside.Lists.items_at, declared.soft_list.Entry.Entry, declared.soft_list.Entry.TheVariants.At, declared.soft_list.Entry.TheVariants.Valid}
 
 -- one more of the others
 item-stays : (others : List SoftItem) (item : SoftItem) (entry : Entry) → IsAmong (length others) entry → item_at (others ++ item ∷ []) entry ≡ item_at others entry

@@ -1,4 +1,4 @@
-use Rattle.rds_soft.proofs.Names.{common_steps, ◌≡◌, ◌++◌, ◌+◌, ◌*◌, ◌^◌, ◌∷◌, ◌∙◌, ℕ, List, [], ap, ap₂, append-nil, append_assoc, arith, length, subst, sym, take, take_all, take_more, AreAtMost, plus, soft_totals_of, SoftItem}
+use Rattle.rds_soft.proofs.Names.{common_steps, ◌≡◌, ◌++◌, ◌+◌, ◌*◌, ◌^◌, ◌∷◌, ◌∙◌, ℕ, List, [], ap, ap₂, append-nil, append_assoc, arith, length, subst, sym, take, take_all, take_more, AreAtMost, plus, slice_index_or, soft_totals_of, SoftItem}
 use Rattle.rds_soft.specs.SoftLists.{item_of}
 use Rattle.rds_soft.proofs.soft_stream.counted.Goals as goal
 
@@ -21,12 +21,13 @@ loop-i-preserved c =
     let i : ℕ = c.loop-i.i in
     let items : List SoftItem = c.args.items.now in
     let item : SoftItem = item_of c.get.result in
+    let at : SoftItem = slice_index_or items i item in
     record {
       value = λ before is.
           c.plus-sum.ensures.value ∙ ap₂ plus (inv.value before is) c.of_listed.ensures.value
           ∙ ap (λ (x : SoftItem). plus (soft_totals_of (before ++ take i items)) (soft_totals_of (x ∷ []))) (c.get.ensures item)
-          ∙ sym (c.soft_totals_join.ensures (before ++ take i items) (item ∷ []))
-          ∙ ap soft_totals_of (append_assoc before (take i items) (item ∷ []) ∙ ap (λ (xs : List SoftItem). before ++ xs) (sym (take_more items i item (omega (arith, c.loop-i-test.true, c.len-i-end.ensures)))));
+          ∙ sym (c.soft_totals_join.ensures (before ++ take i items) (at ∷ []))
+          ∙ ap soft_totals_of (append_assoc before (take i items) (at ∷ []) ∙ ap (λ (xs : List SoftItem). before ++ xs) (sym (take_more items i item (omega (arith, c.loop-i-test.true, c.len-i-end.ensures)))));
       small = λ most few.
           let sum : most + 2 ^ 10 * i + 2 ^ 10 ≡ most + 2 ^ 10 * (i + 1) = omega arith in
           subst (λ (n : ℕ). AreAtMost n c.plus-sum.result) sum

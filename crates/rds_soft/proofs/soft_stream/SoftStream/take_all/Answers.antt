@@ -15,10 +15,7 @@ pub run_near-requires-clause-order : goal.run_near-requires-clause-order
 run_near-requires-clause-order g c = grind (arith, part-longer c.self.invariant c.args.symbols.now c.deref.result.now c.in_ok-near.near.recording c.saturating_sub-from.result, c.saturating_sub-from.ensures, c.len.ensures, c.deref.ensures.value, c.in_ok-near.ensures.part)
 
 pub read_all_again-requires-clause-places : goal.read_all_again-requires-clause-places
-read_all_again-requires-clause-places g c =
-   let thegoal = c in ? 
-
-foo c =
+read_all_again-requires-clause-places g c lifetimes outlives =
     let know = c.self.invariant in
     let symbols : List ℕ = c.self.inside.history.bytes in
     let more : List ℕ = c.args.symbols.now in
