@@ -1,5 +1,5 @@
 -- Lists of items in little room.
-use Rattle.rds_soft.proofs.Names.{◌≡◌, ◌++◌, ◌+◌, ◌<◌, ◌∷◌, ◌∙◌, ℕ, List, [], ap, ap₂, arith, get_or_append_left, length, map-append, refl, sym, take, take_more, append_assoc, All, All-head, All-tail, All-weaker, slice_index_or, SoftItem, SoftLostLock, Signal, Block, HardValid, Read, A, B, D, ℤ, InSoft, group_again, moved_again, get_or_push}
+use Rattle.rds_soft.proofs.Names.{◌≡◌, ◌++◌, ◌+◌, ◌<◌, ◌∷◌, ◌∙◌, common_steps, ℕ, List, [], ap₂, arith, get_or_append_left, length, map-append, refl, take, append_assoc, All, All-head, All-tail, slice_index_or, SoftItem, SoftLostLock, Signal, Block, HardValid, Read, A, B, D, ℤ, InSoft, group_again, moved_again, get_or_push}
 use Rattle.rds_soft.specs.{SoftLists.third_offset, SoftLists.valid_group, Inside.Lists.IsAmong, Inside.Lists.item_at, Inside.Lists.items_at, declared.soft_list.Entry.Entry, declared.soft_list.Entry.TheVariants.At, declared.soft_list.Entry.TheVariants.Valid}
 
 -- one more of the others
@@ -20,13 +20,6 @@ items-pushed others item entries among =
     map-append (item_at (others ++ item ∷ [])) entries (At (length others) ∷ [])
     ∙ ap₂ (λ (xs : List SoftItem) (x : SoftItem). xs ++ x ∷ []) (items-stay others item entries among) (get_or_push others item (SoftLostLock 0) (length others) refl)
 
-among-more : (count : ℕ) (entry : Entry) → IsAmong count entry → IsAmong (count + 1) entry
-among-more count (Valid group) among = among
-among-more count (At place) among = omega (arith, among)
-
-pub all-among : (count : ℕ) (entries : List Entry) → All (IsAmong count) entries → All (IsAmong (count + 1)) entries
-all-among count entries all = All-weaker (IsAmong count) (IsAmong (count + 1)) (among-more count) entries all
-
 -- a group of four valid blocks stays as it is
 pub valid-again : (b : Signal) (symbols : List ℤ) (margin place d : ℕ) (blocks : List Block) (one two three four : Block) (first second third fourth : ℕ)
     → blocks ≡ one ∷ two ∷ three ∷ four ∷ []
@@ -38,6 +31,4 @@ valid-again b symbols margin place d blocks one two three four first second thir
 -- one item more of those that are appended
 pub one-appended : (first more whole : List SoftItem) (item : SoftItem) (i : ℕ) → whole ≡ first ++ take i more → i < length more
     → item ≡ slice_index_or more i item → whole ++ item ∷ [] ≡ first ++ take (i + 1) more
-one-appended first more whole item i is inside at =
-    ap (λ (xs : List SoftItem). xs ++ item ∷ []) is ∙ append_assoc first (take i more) (item ∷ [])
-    ∙ ap (λ (xs : List SoftItem). first ++ xs) (ap (λ (x : SoftItem). take i more ++ x ∷ []) at ∙ sym (take_more more i item inside))
+one-appended first more whole item i is inside at = grind (arith, common_steps, append_assoc)
