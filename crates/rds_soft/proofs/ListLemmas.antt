@@ -14,21 +14,21 @@ items-stay others item (entry ∷ entries) among =
     ap₂ (λ (x : SoftItem) (xs : List SoftItem). x ∷ xs) (item-stays others item entry (All-head (IsAmong (length others)) entry entries among))
     (items-stay others item entries (All-tail (IsAmong (length others)) entry entries among))
 
-pub items-pushed : (others : List SoftItem) (item : SoftItem) (entries : List Entry) → All (IsAmong (length others)) entries
+pub items_pushed : (others : List SoftItem) (item : SoftItem) (entries : List Entry) → All (IsAmong (length others)) entries
     → items_at (others ++ item ∷ []) (entries ++ At (length others) ∷ []) ≡ items_at others entries ++ item ∷ []
-items-pushed others item entries among =
+items_pushed others item entries among =
     map-append (item_at (others ++ item ∷ [])) entries (At (length others) ∷ [])
     ∙ ap₂ (λ (xs : List SoftItem) (x : SoftItem). xs ++ x ∷ []) (items-stay others item entries among) (get_or_push others item (SoftLostLock 0) (length others) refl)
 
 -- a group of four valid blocks stays as it is
-pub valid-again : (b : Signal) (symbols : List ℤ) (margin place d : ℕ) (blocks : List Block) (one two three four : Block) (first second third fourth : ℕ)
+pub valid_again : (b : Signal) (symbols : List ℤ) (margin place d : ℕ) (blocks : List Block) (one two three four : Block) (first second third fourth : ℕ)
     → blocks ≡ one ∷ two ∷ three ∷ four ∷ []
     → one ≡ Read (HardValid A first) → two ≡ Read (HardValid B second) → three ≡ Read (HardValid (third_offset second) third) → four ≡ Read (HardValid D fourth)
     → moved_again d (InSoft (group_again b symbols margin place blocks))
     ≡ InSoft (valid_group (record { place = place + d; words = first ∷ second ∷ third ∷ fourth ∷ [] }))
-valid-again b symbols margin place d blocks one two three four first second third fourth are h i j k = rw (are, h, i, j, k) refl
+valid_again b symbols margin place d blocks one two three four first second third fourth are h i j k = rw (are, h, i, j, k) refl
 
 -- one item more of those that are appended
-pub one-appended : (first more whole : List SoftItem) (item : SoftItem) (i : ℕ) → whole ≡ first ++ take i more → i < length more
+pub one_appended : (first more whole : List SoftItem) (item : SoftItem) (i : ℕ) → whole ≡ first ++ take i more → i < length more
     → item ≡ slice_index_or more i item → whole ++ item ∷ [] ≡ first ++ take (i + 1) more
-one-appended first more whole item i is inside at = grind (arith, common_steps, append_assoc)
+one_appended first more whole item i is inside at = grind (arith, common_steps, append_assoc)
