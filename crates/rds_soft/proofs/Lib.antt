@@ -17,3 +17,4 @@ pub mod PackLemmas
 pub mod InsideLemmas
 pub mod PartLemmas
 pub mod StreamLemmas
+pub mod ListLemmas

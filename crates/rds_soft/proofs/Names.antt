@@ -1,6 +1,7 @@
 -- The names that proofs share: of std, of the crates below, and of the definitions.
 pub use Rattle.std.proofs.Common.{Bool, Fits, IsTrue, List, MutBor, None, Option, Some, [], add-one, ap, append_assoc, ap₂, arith, bit_xor, cond, drop, false, get_or, inl, inr, length, length-take, lit<, ltb, map, min, refl, replicate, rules, set, slice_index, subst, suc, sym, take, true, zero, ℕ, ◌%◌, ◌*◌, ◌++◌, ◌+◌, ◌-◌, ◌/◌, ◌<◌, ◌^◌, ◌∙◌, ◌∷◌, ◌≡◌, ◌≢◌, ◌≤◌, ◌⊎◌}
-pub use Rattle.std.proofs.lemmas.List.{append-nil, drop-append-le, drop-drop, drop_all, ext_get_or, get_or-append-add, get_or-drop, get_or-map, get_or-set_other, get_or-set_same, get_or-take, get_or_append_left, length-append, length-drop, length-map, length-set, map-append, take-append-le, take_all, take_more, take_rest}
+pub use Rattle.std.proofs.lemmas.List.{append-nil, drop-append-le, drop-drop, drop_all, ext_get_or, get_or-append-add, get_or-drop, get_or-map, get_or-set_other, get_or-set_same, get_or-take, get_or_append_left, get_or_push, length-append, length-drop, length-map, length-set, map-append, take-append-le, take_all, take_more, take_rest}
+pub use Rattle.std.proofs.lemmas.List.Elements.{All-head, All-tail}
 pub use Rattle.std.proofs.lemmas.Simd.{Each1-get_or, bit_mask_l, bitmask_splat, get_or-chunk, get_or-put_chunk_at, get_or-put_chunk_below, get_or-replicate, get_or-sel_l, get_or-zip2, length-sel_l, length-zip2, pick_l_left, tops_compared}
 pub use Rattle.std.{proofs.lemmas.Grind.common_steps, proofs.Math.Nat.min-eq_left, proofs.Math.Nat.min-eq_right, proofs.Math.Nat.min-le_left, proofs.Math.Nat.min-le_right, proofs.Math.Nat.one-mul, proofs.Math.Nat.pow-suc, proofs.Math.Nat.zero-mul, proofs.lemmas.Bool.cases_eq, proofs.lemmas.Bool.cases_lt, proofs.lemmas.Bool.cond_both, proofs.lemmas.Bool.eq-eqb, proofs.lemmas.Bool.eqb-false, proofs.lemmas.Bool.eqb-true, proofs.lemmas.Bool.false≢true, proofs.lemmas.Bool.le-ltb, proofs.lemmas.Bool.lt-ltb, proofs.lemmas.Bool.ltb-false, proofs.lemmas.Bool.ltb-true, proofs.lemmas.Int.to_z-of_z, proofs.lemmas.Int.to_z_pos, proofs.lemmas.List.FromFn.get_or-map-range_with_len, proofs.lemmas.List.FromFn.length-map-range_with_len, proofs.lemmas.Nat.xor_block, proofs.lemmas.Nat.xor_comm, proofs.lemmas.Nat.xor_lt, proofs.lemmas.Nat.xor_mod, proofs.lemmas.Nat.xor_shr, proofs.lemmas.Nat.Bits.bit_at-lt, proofs.lemmas.Nat.Bits.bit_at_cat_high, proofs.lemmas.Nat.Bits.bit_at_cat_low, proofs.lemmas.Nat.Bits.bit_at_lowest, proofs.lemmas.Nat.Bits.bit_at_xor, specs.Int.bit_at, specs.Int.cast_signed, specs.Int.is_positive, specs.Int.w8, specs.Int.Bits.xor_assoc, specs.Int.Bits.xor_self, specs.Int.Bits.xor_shifted, specs.Int.Bits.xor_zero_l, specs.Int.Bits.xor_zero_r, specs.Int.Digits.number_from_digits, specs.List.All, specs.List.drop-map, specs.List.list_any, specs.List.take-map, specs.Prelude.T, specs.Prelude.if◌then◌else◌, specs.Prelude.nat_lt, specs.Prelude.not, specs.Prelude.option_map, specs.Prelude.pos, specs.Prelude.slice_index_or, specs.Prelude.ℤ, specs.Prelude.⊤, specs.Prelude.◌&&◌, specs.Prelude.◌==◌}
 pub use lib.Lanes.{all_below, pick_l, sel_l, zip2}

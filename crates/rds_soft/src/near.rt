@@ -160,6 +160,7 @@ fn list_of_part(
 
 /// An item of a part from place `before` on, if it is a group of four valid blocks, which stay so, and block 3 has the offset of the
 /// version that block 2 names.
+#[tactic(auto, using(crate::proofs::AgainLemmas::list_of_four, crate::proofs::ListLemmas::valid_again), unfolding(crate::specs::ReadAgain::item_again))]
 fn valid_in(item: &Item, before: u64) -> Option<ValidGroup>
     requires limit { before ≤ 2 ^ 36 }
     requires place { place_of item.now < 2 ^ 37 }

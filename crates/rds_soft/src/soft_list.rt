@@ -106,6 +106,7 @@ impl SoftList {
     }
 
     /// Appends the items of another list. Fails only if memory is refused.
+    #[tactic(auto, using(crate::proofs::ListLemmas::one_appended))]
     pub fn append(&mut self, more: &SoftList) -> Result<(), AllocError>
         ensures { OnOk result (self.new ≡ self.old ++ more.now) }
     {

@@ -1,21 +1,21 @@
 use Rattle.rds_soft.proofs.Names.{◌≡◌, ◌++◌, ◌+◌, ◌-◌, ◌*◌, ◌^◌, ◌<◌, ◌≤◌, ◌∙◌, ℕ, List, ap, ap₂, arith, length, map, subst, sym, All, length-append, length-map, Signal, length_of, run, Item, State, moved_state, moved_back, place_of, SoftHeard, SoftTerms, complete, run_of, soft_totals_of, again_in, last_symbols, part_of, SoftItem}
 use Rattle.rds_soft.proofs.StreamLemmas.{at-most-more, before-is, complete-after, d, early-is, few-found, found-early, from, kept, kept-after, lawful-is, part-longer, run-is, state-after}
-use Rattle.rds_soft.proofs.{AgainLaws.symbols_have_windows, soft_stream.SoftStream.take_all.Goals.After-deref-4}
+use Rattle.rds_soft.proofs.{AgainLaws.symbols_have_windows, soft_stream.SoftStream.take_all.Given.Over, soft_stream.SoftStream.take_all.Goals.In_ok-found}
 use Rattle.rds_soft.proofs.soft_stream.SoftStream.take_all.Goals as goal
 
 pub run_near-requires-clause-lawful : goal.run_near-requires-clause-lawful
-run_near-requires-clause-lawful c =
+run_near-requires-clause-lawful g c =
     lawful-is c.self.invariant c.acquisitions_are_late.ensures c.steps_are_lawful.ensures c.runs_are_lawful.ensures symbols_have_windows c.reach.ensures.range
     c.saturating_sub-from.result c.in_ok-near.near.before (omega (arith, c.saturating_sub-from.ensures, c.len.ensures)) (omega (arith, c.in_ok-near.ensures.before, c.len-2.ensures))
 
 pub run_near-requires-clause-early : goal.run_near-requires-clause-early
-run_near-requires-clause-early c = grind (arith, early-is c.self.invariant c.saturating_sub-from.result c.in_ok-near.near.before, c.saturating_sub-from.ensures, c.len.ensures, c.in_ok-near.ensures.before, c.len-2.ensures)
+run_near-requires-clause-early g c = grind (arith, early-is c.self.invariant c.saturating_sub-from.result c.in_ok-near.near.before, c.saturating_sub-from.ensures, c.len.ensures, c.in_ok-near.ensures.before, c.len-2.ensures)
 
 pub run_near-requires-clause-order : goal.run_near-requires-clause-order
-run_near-requires-clause-order c = grind (arith, part-longer c.self.invariant c.args.symbols.now c.deref.result.now c.in_ok-near.near.recording c.saturating_sub-from.result, c.saturating_sub-from.ensures, c.len.ensures, c.deref.ensures.value, c.in_ok-near.ensures.part)
+run_near-requires-clause-order g c = grind (arith, part-longer c.self.invariant c.args.symbols.now c.deref.result.now c.in_ok-near.near.recording c.saturating_sub-from.result, c.saturating_sub-from.ensures, c.len.ensures, c.deref.ensures.value, c.in_ok-near.ensures.part)
 
 pub read_all_again-requires-clause-places : goal.read_all_again-requires-clause-places
-read_all_again-requires-clause-places c =
+read_all_again-requires-clause-places g c lifetimes outlives =
     let know = c.self.invariant in
     let symbols : List ℕ = c.self.inside.history.bytes in
     let more : List ℕ = c.args.symbols.now in
@@ -30,7 +30,7 @@ read_all_again-requires-clause-places c =
     c.runs_join.ensures c.runs_move.ensures more (omega (arith, fits, length-append symbols more)))
 
 -- once the items were read again
-module _ (c : After-deref-4) where
+module _ (g : Over) (c : In_ok-found g) where
   abbrev terms : SoftTerms
   terms = record { rules = c.self.inside.rules.now; gaps = c.self.inside.gaps.now; margin = c.self.inside.margin }
 
@@ -84,19 +84,20 @@ module _ (c : After-deref-4) where
   abbrev again : Signal → List ℕ → ℕ → List Item → List SoftItem
   again b xs before items = map (again_in b xs c.self.inside.margin before) items
 
-  items_are : c.in_ok-found.found.items ≡ again part (kept symbols ++ more) (d symbols) found.1
+  items_are : c.in_ok-found.found ≡ again part (kept symbols ++ more) (d symbols) found.1
   items_are =
       c.in_ok-found.ensures
+      ∙ ap (λ (margin : ℕ). map (again_in near c.in_ok-near.near.symbols.items margin c.in_ok-near.near.before) c.deref-3.result.now) c.in_ok-near.ensures.margin
       ∙ ap₂ (λ (b : Signal) (xs : List ℕ). again b xs c.in_ok-near.near.before c.deref-3.result.now) near_part symbols_at
       ∙ ap₂ (λ (before : ℕ) (items : List Item). again part (kept symbols ++ more) before items) before_at hard_are
 
-  complete_is : complete terms all ≡ complete terms symbols ++ c.in_ok-found.found.items
+  complete_is : complete terms all ≡ complete terms symbols ++ c.in_ok-found.found
   complete_is =
       complete-after c.acquisitions_are_late.ensures c.steps_are_lawful.ensures c.runs_are_lawful.ensures symbols_have_windows terms c.reach.ensures.range c.self.invariant.gaps symbols
       c.runs_join.ensures c.runs_move.ensures more
       ∙ ap (λ (xs : List SoftItem). complete terms symbols ++ xs) (sym items_are)
 
-  few : length c.in_ok-found.found.items ≤ 2 * length more
+  few : length c.in_ok-found.found ≤ 2 * length more
   few =
       omega (
         arith,
@@ -107,40 +108,39 @@ module _ (c : After-deref-4) where
       )
 
 pub counted-self-inside-requires : goal.counted-self-inside-requires
-counted-self-inside-requires c = (
-  2 ^ 11 * length (symbols c),
-  c.self.invariant.small,
-  omega (arith, few c, ap (λ (xs : List SoftItem). length xs) c.deref-4.ensures.value, fits c),
-)
+counted-self-inside-requires g c =
+    let n = (goal.at.counted-self-inside-requires g c).In_ok-found in (
+      2 ^ 11 * length (symbols g n),
+      c.self.invariant.small,
+      omega (arith, few g n, fits g n),
+    )
 
 pub invariant_of-self-2 : goal.invariant_of-self-2
-invariant_of-self-2 c =
-    let n = (goal.at.invariant_of-self-2 c).After-deref-4 in
+invariant_of-self-2 g c =
+    let n = (goal.at.invariant_of-self-2 g c).In_ok-found in
     let know = c.self.invariant in
     let sums = c.counted-self-inside.ensures in
-    let noted : c.note.new.self.bytes ≡ symbols n ++ more n = c.note.ensures in
-    let long : length c.note.new.self.bytes ≡ length (symbols n) + length (more n) = ap (λ (xs : List ℕ). length xs) noted ∙ length-append (symbols n) (more n) in
-    let given : length c.deref-4.result.now ≡ length c.in_ok-found.found.items = ap (λ (xs : List SoftItem). length xs) c.deref-4.ensures.value in
+    let noted : c.note.new.self.bytes ≡ symbols g n ++ more g n = c.note.ensures in
+    let long : length c.note.new.self.bytes ≡ length (symbols g n) + length (more g n) = ap (λ (xs : List ℕ). length xs) noted ∙ length-append (symbols g n) (more g n) in
     record {
       count_is = omega (arith, know.count_is, long);
-      limit = omega (arith, long, fits n);
-      kept_is = c.in_ok-kept.ensures ∙ ap last_symbols (c.deref-2.ensures.value ∙ c.in_ok-near.ensures.symbols ∙ ap (λ (xs : List ℕ). xs ++ more n) c.deref.ensures.value)
-          ∙ kept-after know (more n) ∙ ap last_symbols (sym noted);
+      limit = omega (arith, long, fits g n);
+      kept_is = c.in_ok-kept.ensures ∙ ap last_symbols (c.deref-2.ensures.value ∙ c.in_ok-near.ensures.symbols ∙ ap (λ (xs : List ℕ). xs ++ more g n) c.deref.ensures.value)
+          ∙ kept-after know (more g n) ∙ ap last_symbols (sym noted);
       state_is = c.in_ok-items.ensures.state
-          ∙ ap₂ (λ (k : ℕ) (r : State × List Item). moved_state k r.0) (before_at n) (found_is n)
-          ∙ state-after c.acquisitions_are_late.ensures c.steps_are_lawful.ensures c.runs_are_lawful.ensures symbols_have_windows (terms n) c.reach.ensures.range know.gaps (symbols n)
-          c.runs_join.ensures c.runs_move.ensures (more n)
-          ∙ ap (λ (xs : List ℕ). (run_of (terms n) xs).0) (sym noted);
-      totals_are = sums.value (complete (terms n) (symbols n)) know.totals_are
-          ∙ ap (λ (xs : List SoftItem). soft_totals_of (complete (terms n) (symbols n) ++ xs)) c.deref-4.ensures.value
-          ∙ ap soft_totals_of (sym (complete_is n))
-          ∙ ap (λ (xs : List ℕ). soft_totals_of (complete (terms n) xs)) (sym noted);
-      small = at-most-more (2 ^ 11 * length (symbols n) + 2 ^ 10 * length c.deref-4.result.now) (2 ^ 11 * length c.note.new.self.bytes) c.counted-self-inside.result
-          (omega (arith, few n, given, long)) (sums.small (2 ^ 11 * length (symbols n)) know.small);
+          ∙ ap₂ (λ (k : ℕ) (r : State × List Item). moved_state k r.0) (before_at g n) (found_is g n)
+          ∙ state-after c.acquisitions_are_late.ensures c.steps_are_lawful.ensures c.runs_are_lawful.ensures symbols_have_windows (terms g n) c.reach.ensures.range know.gaps (symbols g n)
+          c.runs_join.ensures c.runs_move.ensures (more g n)
+          ∙ ap (λ (xs : List ℕ). (run_of (terms g n) xs).0) (sym noted);
+      totals_are = sums.value (complete (terms g n) (symbols g n)) know.totals_are
+          ∙ ap soft_totals_of (sym (complete_is g n))
+          ∙ ap (λ (xs : List ℕ). soft_totals_of (complete (terms g n) xs)) (sym noted);
+      small = at-most-more (2 ^ 11 * length (symbols g n) + 2 ^ 10 * length c.in_ok-found.found) (2 ^ 11 * length c.note.new.self.bytes) c.counted-self-inside.result
+          (omega (arith, few g n, long)) (sums.small (2 ^ 11 * length (symbols g n)) know.small);
       gaps = know.gaps;
     }
 
 pub returns-clause-items : goal.returns-clause-items
-returns-clause-items c =
-    let n = (goal.at.returns-clause-items c).After-deref-4 in
-    subst (λ (h : SoftHeard). complete h.terms (h.symbols ++ c.args.symbols.now) ≡ complete h.terms h.symbols ++ c.in_ok-found.found.items) c.self.view_is (complete_is n)
+returns-clause-items g c =
+    let n = (goal.at.returns-clause-items g c).In_ok-found in
+    subst (λ (h : SoftHeard). complete h.terms (h.symbols ++ c.args.symbols.now) ≡ complete h.terms h.symbols ++ c.in_ok-found.found) c.self.view_is (complete_is g n)
