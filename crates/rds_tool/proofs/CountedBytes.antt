@@ -9,7 +9,7 @@ take_few : (n k : ℕ) (xs : List ℕ) → k ≡ min n (length xs) → take n xs
 take_few n k xs is = grind (arith, common_steps, take_all)
 
 -- the first bytes, once more came
-take_on : (n k : ℕ) (xs ys : List ℕ) → k ≡ min (n - length xs) (length ys) → take n (xs ++ ys) ≡ take n xs ++ take k ys
+pub take_on : (n k : ℕ) (xs ys : List ℕ) → k ≡ min (n - length xs) (length ys) → take n (xs ++ ys) ≡ take n xs ++ take k ys
 take_on n k xs ys is = elim (cases_lt (length xs) n) [
   | inl more ↦
       let d : ℕ = n - length xs in

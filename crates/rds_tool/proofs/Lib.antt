@@ -27,6 +27,5 @@ pub mod Ordered
 pub mod Alike
 pub mod WellFormed
 pub mod HexDigits
-pub mod Softly
+pub mod HeldSymbols
 pub mod SoftFollowed
-pub mod ReadTogether

@@ -167,11 +167,13 @@ impl Taker for HeldSymbols<'_> {
         let Ok(items) = self.stream.take(rt, alloc, &bytes[..room]) else {
             return Err(AllocError);
         };
-        if self.has_rows {
-            self.items.append(&items)?;
-        }
         self.count = self.count.saturating_add(bytes.len() as u64);
         self.symbols.note(bytes);
-        Ok(())
+        if !self.has_rows {
+            return Ok(());
+        }
+        let listed = self.items.append(&items);
+        self.has_rows = listed.is_ok();
+        listed
     }
 }
