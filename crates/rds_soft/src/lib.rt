@@ -21,8 +21,9 @@
 //! - [`Search::read`]: 27 symbols, read as a block, a [`SoftReading`]: valid, corrected or lost. [`mask_of`]: the bits that flips
 //!   invert.
 //! - [`Search::read_again`]: an item of a report, read again from the symbols of its recording, a [`SoftItem`].
-//! - [`SoftStream`]: a stream of symbols, heard as it comes. [`SoftStream::take`] gives the items that the next symbols complete, and
-//!   [`SoftStream::finish`] a [`SoftEnd`]: the group in progress, and the totals.
+//! - [`SoftStream`]: a stream of symbols, heard as it comes. [`SoftStream::take`] gives the items that the next symbols complete, a
+//!   [`SoftList`], and [`SoftStream::finish`] a [`SoftEnd`]: the group in progress, and the totals.
+//! - [`SoftList`]: items in little room. [`SoftList::get`] gives one as it is kept, a [`Listed`]: a [`ValidGroup`], or any other item.
 //! - [`pack_bits`]: the packed bits of symbols. [`SoftTotals`]: the totals of items that were read again.
 //! - [`laws`]: at most one block is nearest, which blocks are corrected to what was sent, and that items are read again in one way.
 //!

@@ -49,7 +49,9 @@ pub fn follow_soft<R: Threads + Sync, S: Source, K: Sink>(
         reader.old reader.new writer.old writer.new result }
 {
     laws::runs_are_reports();
-    let stream = follow_symbols(rt, alloc, reader, writer, rules, margin, bits, gaps, workers)?;
+    let stream = follow_symbols(
+        rt, alloc, reader, writer, rules, margin, bits, gaps, workers,
+    )?;
     let rows = rows_of_end(alloc, stream, bits)?;
     write_flushed(writer, rows.as_slice())
 }

@@ -13,6 +13,7 @@ use std::alloc::AllocError;
 
 /// How many totals there are, of which the first are those of any listing.
 const TOTALS: usize = 18;
+
 const HARD: usize = 12;
 
 /// The rows of the items of a list, and then those of these totals.
