@@ -1,7 +1,7 @@
 -- Symbols that are decoded as they come: of all symbols those that count say the same.
-use Rattle.rds_tool.proofs.Names.{common_steps, arith, ◌≡◌, ◌<◌, ◌≤◌, ◌+◌, ◌-◌, ◌^◌, ◌++◌, ◌∷◌, ◌∙◌, Bool, Err, List, [], None, Ok, Option, Result, Some, ap, cases_lt, drop, false, flat_map, flat_map-map, if◌then◌else◌, inl, inr, le-ltb, lt-ltb, length, length-append, length-take, map, min, range_with_len, refl, report_items, sym, subst, take, take_all, true, ℕ, and_then, claimed_of, hard_bit, symbols_of, soft_row, soft_text, soft_totals_text, AreGaps, RuleNumbers, Signal, SoftItem, SoftTerms, length_of, BadGaps, BitsPastBytes, TooLong, RdsError}
+use Rattle.rds_tool.proofs.Names.{common_steps, arith, ◌≡◌, ◌<◌, ◌≤◌, ◌+◌, ◌-◌, ◌^◌, ◌++◌, ◌∷◌, ◌∙◌, Bool, Err, List, [], None, Ok, Option, Result, Some, ap, cases_lt, drop, false, flat_map, flat_map-map, if◌then◌else◌, inl, inr, le-ltb, lt-ltb, length, length-append, length-take, map, min, range_with_len, refl, report_items, sym, subst, take, take_all, true, ℕ, and_then, claimed_of, recording_of_symbols, hard_bit, symbols_of, soft_row, soft_text, soft_totals_text, AreGaps, RuleNumbers, Signal, SoftItem, SoftTerms, length_of, BadGaps, BitsPastBytes, TooLong, RdsError}
 use Rattle.rds_tool.proofs.{CountedBytes.take_on, GapLists.are_gaps, GapLists.pass_as_gaps}
-use Rattle.rds_tool.specs.{Inside.HeldSymbols.HeldOf, Inside.HeldSymbols.IsHeld, Inside.HeldSymbols.most_heard, Inside.HeldSymbols.text_of_held}
+use Rattle.rds_tool.specs.{Inside.HeldSymbols.HeldOf, Inside.HeldSymbols.IsHeld, Inside.HeldSymbols.most_heard, Inside.HeldSymbols.text_of_held, Inside.Takers.TakerTerms}
 use Rattle.rds_soft.specs.ReadAgain.{item_again}
 use Rattle.rds_soft.specs.{ReadAgain.group_again, ReadAgain.first_bit, ReadAgain.symbols_heard, SoftStream.SoftHeard, SoftStream.complete, SoftStream.group_item, SoftStream.report_of, SoftStream.signal_of, SoftTotals.soft_totals_of, Symbols.hard_bits, Symbols.sign, declared.soft_item.SoftGroup.SoftGroup, declared.soft_item.SoftItem.TheVariants.Group as InSoft, declared.soft_totals.SoftTotals.SoftTotals}
 use Rattle.rds_soft.proofs.PartLemmas.{length-bits, length-symbols}
@@ -10,7 +10,7 @@ use Rattle.rds_sync.specs.declared.item.{Block.Block, Item.Item}
 use Rattle.rds_sync.specs.declared.item.Item.TheVariants.{Acquired, Group, LostLock}
 use Rattle.std.proofs.lemmas.List.{drop-take, get_or-take, take-map, take-take}
 use Rattle.std.proofs.lemmas.List.FromFn.{get_or-map-range_with_len, length-map-range_with_len}
-use Rattle.std.proofs.lemmas.List.{ext_get_or}
+use Rattle.std.proofs.lemmas.List.{Elements.All-weaker, ext_get_or}
 use Rattle.std.specs.{Int.cast_signed, Int.w8, Option.unwrap_or, Prelude.bit_xor, Prelude.nat_lt, Prelude.not, Prelude.pos, Prelude.slice_index_or, Prelude.ℤ, Prelude.◌&&◌}
 use mathlib.Core.Path.{ap₂}
 
@@ -144,6 +144,25 @@ module _ (terms : SoftTerms) (bits : Option ℕ) (has_rows : Bool) (held : List 
   held-text are =
       rw (le-ltb (2 ^ 36) n short, le-ltb (length held - 1) n within, pass_as_gaps terms.gaps n are)
       (ap (λ t. Ok t) (row-parts has_rows terms.rules terms.margin held whole ∙ ap (λ (items : List SoftItem). rows-of has_rows items ++ soft_totals_text (soft_totals_of items)) report-is))
+
+pub same_terms : (a b : TakerTerms) → Some a ≡ Some b → a ≡ b
+same_terms a b p = cc
+
+-- gaps that no recording may have
+wider : (n : ℕ) (gaps : List (ℕ × ℕ)) → n ≤ 2 ^ 36 → AreGaps n gaps → AreGaps (2 ^ 36) gaps
+wider n gaps short are = record {
+  each = All-weaker (λ (gap : ℕ × ℕ). (gap.0 < gap.1) × (gap.1 ≤ n)) (λ (gap : ℕ × ℕ). (gap.0 < gap.1) × (gap.1 ≤ 2 ^ 36))
+      (λ gap lies. (lies.0, omega (arith, lies.1, short))) gaps are.each;
+  apart = are.apart;
+}
+
+pub never-gaps : (terms : SoftTerms) (bits : Option ℕ) (has_rows : Bool) (held : List ℕ) (count : ℕ) → count ≡ min (length held) (2 ^ 64 - 1)
+    → unwrap_or bits (count - 1) ≤ 2 ^ 36 → unwrap_or bits (count - 1) ≤ count - 1 → (AreGaps (2 ^ 36) terms.gaps → ⊥)
+    → and_then (recording_of_symbols (record { hex = false; bits = bits; gaps = terms.gaps }) held) (λ recording. Ok (soft_text has_rows terms.rules terms.margin held recording)) ≡ Err BadGaps
+never-gaps terms bits has_rows held count counts few there none =
+    let is = claim-is bits count held counts few in
+    let short : claimed_of bits held ≤ 2 ^ 36 = omega (arith, is, few) in
+    bad-gaps terms bits has_rows held short (omega (arith, is, there, counts)) (λ are. none (wider (claimed_of bits held) terms.gaps short are))
 
 -- ---- symbols that were taken
 

@@ -1,11 +1,8 @@
-use Rattle.rds_tool.proofs.Names.{common_steps, arith, ◌≡◌, ◌∙◌, Err, List, Ok, Some, ap, inl, subst, sym, ℕ, report_items, RuleNumbers, totals_of, recording_of, InputOf, InputCounterOf, text_of_task, PlanOf, IsMemoryOrErrOf, RdsError}
-use Rattle.rds_tool.proofs.{Passing.passed, Texts.any_cut, Texts.no_failure, Texts.totals_made, Transcribing.at_bytes, Transcribing.at_memory, Transcribing.at_read, Transcribing.at_writer, engine.transcribe_totals.Given.Over, engine.transcribe_totals.Goals.In_ok-read_all}
+use Rattle.rds_tool.proofs.Names.{common_steps, arith, ◌≡◌, ◌∙◌, Err, List, Ok, ap, inl, subst, sym, ℕ, report_items, RuleNumbers, totals_of, recording_of, InputOf, InputCounterOf, text_of_task, PlanOf, IsMemoryOrErrOf, RdsError}
+use Rattle.rds_tool.proofs.{HeldSymbols.same_terms, Passing.passed, Texts.any_cut, Texts.no_failure, Texts.totals_made, Transcribing.at_bytes, Transcribing.at_memory, Transcribing.at_read, Transcribing.at_writer, engine.transcribe_totals.Given.Over, engine.transcribe_totals.Goals.In_ok-read_all}
 use Rattle.rds_tool.specs.Inside.Takers.{TakerTerms}
 use Rattle.rds_tool.specs.declared.task.Task.TheVariants as task
 use Rattle.rds_tool.proofs.engine.transcribe_totals.Goals as goal
-
-same_terms : (a b : TakerTerms) → Some a ≡ Some b → a ≡ b
-same_terms a b p = cc
 
 refused : (input : InputOf) (text : List ℕ) (e : RdsError) → IsMemoryOrErrOf (recording_of input text) e → (plan : PlanOf)
     → IsMemoryOrErrOf (text_of_task (task.Totals input plan) text) e
