@@ -39,10 +39,10 @@ const CHUNK: usize = 65_536;
 /// `BadGaps`, `BadCutting`, or `GroupText`); and those of the writer (`Write`). `OutOfMemory` may come
 /// wherever memory is taken. The rows of a list are made by as many threads as well, part by part while they
 /// are written. A thread that the system refuses is done without. The items are decoded again when their
-/// rows are made, or by one worker only then, so that the recording is held until then. Symbols are decoded while they
-/// come, and only the items are held. All room that can be refused is taken before the first byte is written. No thread outlives the call, which returns if those of
-/// reader and writer do. They have counted fewer than 2^63 failures before. Each promise is a field of
-/// `IsTranscribed` (`specs/Transcribed.antt`).
+/// rows are made, or by one worker only then, so that the recording is held until then. Symbols are decoded
+/// while they come, and only the items are held. All room that can be refused is taken before the first byte is
+/// written. No thread outlives the call, which returns if those of reader and writer do. They have counted fewer
+/// than 2^63 failures before. Each promise is a field of `IsTranscribed` (`specs/Transcribed.antt`).
 pub fn transcribe<R: Threads + Sync, S: Source, K: Sink>(
     rt: &R,
     alloc: Global,
