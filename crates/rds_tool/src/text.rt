@@ -22,6 +22,9 @@ use std::thread::Threads;
 /// How many rows of a listing are made at once.
 const PART: usize = 1024;
 
+/// How many rows of symbols are made at once by the caller alone: so that most writes have 64 KiB or more.
+const ALONE: usize = 2048;
+
 /// How many places are scanned at once: each has room for a row.
 const PLACES: usize = 16_384;
 
@@ -93,7 +96,7 @@ fn write_bytes<R: Threads + Sync, K: Sink>(
         }
         Text::Soft(items, totals) => {
             let rows = SoftRows::new(items, totals)?;
-            write_rows(rt, alloc, &rows, 1, PART, writer)
+            write_rows(rt, alloc, &rows, 1, ALONE, writer)
         }
     }
 }
