@@ -184,9 +184,10 @@ pub fn of_two_reads<R: Threads + Sync>(
     Ok((one, other))
 }
 
-/// The first item of a list that is appended comes next after those before.
+/// The first item of a list that is appended follows the items before.
 pub fn first_appended(list: &mut SoftList, more: &SoftList) -> Result<Option<Listed>, AllocError>
-    ensures item { (one : AnItem) (rest : List AnItem) → more.now ≡ one ∷ rest → IfOk result (λ found. IfSome found (λ found. item_of found ≡ one)) }
+    ensures item { (one : AnItem) (rest : List AnItem) → more.now ≡ one ∷ rest
+        → IfOk result (λ found. IfSome found (λ found. item_of found ≡ one)) }
     ensures none { IfOk result (λ found. found ≡ None → more.now ≡ []) }
 {
     let count = list.len();
