@@ -25,8 +25,8 @@ ZERO = b"00003f000019800005a00001b4"
 ZERO_BYTES = bytes.fromhex(ZERO.decode())
 STATION = (TOP / "examples" / "station.bin").read_bytes()
 LINES = b"1234 2540 5244 5320\n0000 0800 0000 0000\n"
-# of which one in ten is wrong, so that there is work for several workers
-SYMBOLS = random_symbols(np.random.default_rng(5), STATION[:12000], 12)
+# of which one in twenty is wrong, so that each of two reads has work for three workers
+SYMBOLS = random_symbols(np.random.default_rng(3), STATION[:12000], 12)
 
 
 class Job(NamedTuple):

@@ -19,6 +19,8 @@ import sys
 import tempfile
 import time
 from functools import lru_cache
+from itertools import accumulate
+from operator import xor
 from pathlib import Path
 from typing import Callable, NamedTuple
 
@@ -86,6 +88,12 @@ def dump(held: bytes, spoilt: int = 0) -> bytes:
     return "".join(lines).encode()
 
 
+def symbols(held: bytes) -> bytes:
+    """Symbols with these bits between them, so one more than they are, each as sure as the others."""
+    bits = (byte >> 7 - k & 1 for byte in held for k in range(8))
+    return bytes(100 if is_up else 156 for is_up in accumulate(bits, xor, initial=0))
+
+
 def lines_of(rows: list[str]) -> bytes:
     return "".join(f"{row}\n" for row in rows).encode()
 
@@ -112,6 +120,9 @@ INPUTS: dict[str, Callable[[str], bytes]] = {
     "version_b": lambda rds: 10 * groups(rds, version_b()),
     **{f"wrong{share}": lambda rds, share=share: wrong(share, 40) for share in (0.0005, 0.003, 0.01, 0.03)},  # type: ignore[misc]
     "worst": lambda rds: 10 * worst(rds, 15000),
+    "symbols": lambda rds: symbols(10 * STATION),
+    "more_symbols": lambda rds: symbols(40 * STATION),
+    "wrong_symbols": lambda rds: symbols(wrong(0.03, 10)),
     "short_locks": lambda rds: worst_inputs.recording("short_locks", 2005250),
     "three_phases": lambda rds: worst_inputs.recording("three_phases", 2005250),
 }

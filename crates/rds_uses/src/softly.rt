@@ -1,19 +1,20 @@
 //! Facts about soft decisions that a user of `rds_soft` relies on: which block is nearest, how symbols are read, and what a
 //! report read again keeps.
-ghost use Rattle.std.specs.Prelude.{◌≡◌, ◌≢◌, ℕ, ◌+◌, ◌-◌, ◌*◌, ◌<◌, ◌≤◌, ◌^◌, ◌++◌, None, Some, IfOk, IfSome, slice_index, IsTrue, ◌∷◌, [], drop, length, take, OnOk};
+ghost use Rattle.std.specs.Prelude.{◌≡◌, ◌≢◌, ℕ, ◌+◌, ◌-◌, ◌*◌, ◌<◌, ◌≤◌, ◌^◌, ◌++◌, None, Some, IfOk, IfSome, slice_index, IsTrue, ◌∷◌, List, [], drop, length, take, OnOk};
 ghost use Rattle.rds_code.specs.{declared.offset.Offset.Offset as AnOffset, Offsets.number as number_of, Offsets.word, Remainder.rem, Reading.IsValid, Reading.allows, Reading.information, declared.reading.Wanted.Wanted as WantedHard};
-ghost use Rattle.rds_soft.specs.{Nearest.Turns, Nearest.top, Nearest.weight, Symbols.hard_bit, Symbols.hard_bits, Symbols.hard_window, Symbols.IsSoftReading, declared.soft_item.SoftBlock.TheVariants.Read as SoftRead, ReadAgain.block_again, ReadAgain.item_again, ReadAgain.reading_heard, ReadAgain.soft_reading, ReadAgain.symbols_heard, ReadAgain.symbols_of, SoftStream.complete, SoftStream.report_of, SoftTotals.soft_totals_of};
+ghost use Rattle.rds_soft.specs.{Nearest.Turns, Nearest.top, Nearest.weight, Symbols.hard_bit, Symbols.hard_bits, Symbols.hard_window, Symbols.IsSoftReading, declared.soft_item.SoftBlock.TheVariants.Read as SoftRead, declared.soft_item.SoftItem.SoftItem as AnItem, ReadAgain.block_again, ReadAgain.item_again, ReadAgain.reading_heard, ReadAgain.soft_reading, ReadAgain.symbols_heard, ReadAgain.symbols_of, SoftLists.item_of, SoftStream.complete, SoftStream.report_of, SoftTotals.soft_totals_of};
 ghost use Rattle.rds_stream.specs.Recording.{AreGaps, length_of, reading_at};
 ghost use Rattle.rds_sync.specs.declared.item.Block.TheVariants.{Read};
 
 use rds_code::{BlockNumber, BurstLimit, Offset, RdsError, Wanted};
 use rds_soft::{
-    Correction, Margin, Search, SoftBlock, SoftItem, SoftReading, SoftStream, SoftTotals, laws,
-    mask_of, pack_bits,
+    Correction, Listed, Margin, Search, SoftBlock, SoftItem, SoftList, SoftReading, SoftStream,
+    SoftTotals, laws, mask_of, pack_bits,
 };
 use rds_stream::Recording;
 use rds_sync::{Item, Rules};
 use std::alloc::{AllocError, Global};
+use std::thread::Threads;
 
 // ---- the nearest block
 
@@ -167,35 +168,52 @@ pub fn totals_of_two(one: &SoftItem, other: &SoftItem) -> SoftTotals
 
 /// Items of two reads, one after the other, are those that both complete. What comes later changes none of them. More symbols than a stream
 /// may have are not heard.
-pub fn of_two_reads(
+pub fn of_two_reads<R: Threads + Sync>(
     stream: &mut SoftStream<'_>,
+    rt: &R,
     alloc: Global,
     first: &[u8],
     second: &[u8],
-) -> Result<(Vec<SoftItem>, Vec<SoftItem>), RdsError>
+) -> Result<(SoftList, SoftList), RdsError>
     ensures items { IfOk result (λ items. complete stream.old.terms (stream.old.symbols ++ first.now ++ second.now)
-        ≡ complete stream.old.terms stream.old.symbols ++ items.0.items ++ items.1.items) }
+        ≡ complete stream.old.terms stream.old.symbols ++ items.0 ++ items.1) }
     ensures too_many { 2 ^ 36 + 1 < length stream.old.symbols + length first.now → OnOk result ⊥ × (stream.new ≡ stream.old) }
 {
-    let one = stream.take(alloc, first)?;
-    let other = stream.take(alloc, second)?;
+    let one = stream.take(rt, alloc, first)?;
+    let other = stream.take(rt, alloc, second)?;
     Ok((one, other))
 }
 
+/// The first item of a list that is appended follows the items before.
+pub fn first_appended(list: &mut SoftList, more: &SoftList) -> Result<Option<Listed>, AllocError>
+    ensures item { (one : AnItem) (rest : List AnItem) → more.now ≡ one ∷ rest
+        → IfOk result (λ found. IfSome found (λ found. item_of found ≡ one)) }
+    ensures none { IfOk result (λ found. found ≡ None → more.now ≡ []) }
+{
+    let count = list.len();
+    list.append(more)?;
+    if count == list.len() {
+        return Ok(None);
+    }
+    Ok(Some(list.get(count)))
+}
+
 /// The totals of a stream of these symbols are those of its report, read again. It gives `None` if a gap ends after its last bit.
-pub fn totals_of_stream(
+pub fn totals_of_stream<R: Threads + Sync>(
+    rt: &R,
     alloc: Global,
     rules: &Rules,
     gaps: &[(u64, u64)],
     margin: Margin,
+    workers: u32,
     symbols: &[u8],
 ) -> Result<Option<SoftTotals>, RdsError>
     ensures totals { IfOk result (λ totals. IfSome totals (λ totals. totals
         ≡ soft_totals_of (report_of (record { rules = rules.now; gaps = gaps.now; margin = margin }) symbols.now))) }
     ensures none { IfOk result (λ totals. totals ≡ None → AreGaps (length symbols.now - 1) gaps.now → ⊥) }
 {
-    let mut stream = SoftStream::new(alloc, rules, gaps, margin)?;
-    stream.take(alloc, symbols)?;
+    let mut stream = SoftStream::new(alloc, rules, gaps, margin, workers)?;
+    stream.take(rt, alloc, symbols)?;
     if !stream.may_end() {
         return Ok(None);
     }

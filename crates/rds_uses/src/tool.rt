@@ -152,13 +152,15 @@ pub fn heard_live<R: Threads + Sync, S: Source, K: Sink>(
 }
 
 /// The same of a stream of symbols, and its soft listing.
-pub fn symbols_heard_live<S: Source, K: Sink>(
+pub fn symbols_heard_live<R: Threads + Sync, S: Source, K: Sink>(
     reader: &mut S,
     writer: &mut K,
+    rt: &R,
     alloc: Global,
     margin: Margin,
     rules: &Rules,
     bits: Option<u64>,
+    workers: u32,
 ) -> Result<(), RdsError>
     requires reads { S.failed reader.old < 2 ^ 63 }
     requires writes { K.failed writer.old < 2 ^ 63 }
@@ -171,7 +173,7 @@ pub fn symbols_heard_live<S: Source, K: Sink>(
         (soft_rows_so_far (record { rules = rules.now; gaps = []; margin = margin }) symbols)
         × IsFlushedAfter symbols (K.is_flushed writer.new)) }
 {
-    follow_soft(alloc, reader, writer, rules, margin, bits, &[])
+    follow_soft(rt, alloc, reader, writer, rules, margin, bits, &[], workers)
 }
 
 // ---- rows of lists
