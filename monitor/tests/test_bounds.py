@@ -3,10 +3,13 @@
 from __future__ import annotations
 
 import argparse
+import math
 from typing import Any, Callable, List, Tuple
 
+import numpy
 import pytest
 
+from modulator import Array, baseband, chips_of
 from network import stations
 from rds_monitor.db.standing import standing
 from rds_monitor.measures.errors import interval_of
@@ -17,6 +20,7 @@ from rds_monitor.rows.clock import number_of, rate_of, start_of
 from rds_monitor.rows.inputs import bits_of, gaps_of, input_options, margin_of, rules_of
 from rds_monitor.rows.items import Fault, Misuse
 from rds_monitor.signal.filters import at_least, fast_size
+from rds_monitor.signal.jumps import Jumps
 from rds_monitor.watch.check import Reception, limits_of, percent_of, seen_in
 from rds_monitor.watch.table import table_of
 from rds_monitor.watch.verdict import CRITICAL, OK, WARNING, Limits, Seen, Verdict
@@ -167,3 +171,42 @@ def test_stretches_a_tenth_apart_are_one() -> None:
     join(found, (CUT, 2.0, "ALPHA"), CUT)
     join(found, (2.125, 3.0, "ALPHA"), CUT)
     assert found == [(-5.0, 2.0, "ALPHA"), (2.125, 3.0, "ALPHA")]
+
+
+def lengths_between_jumps(signal: Array) -> List[int]:
+    """Of a signal of 14,250 samples per second, which is given on as it came."""
+    jumps, lengths, parts = Jumps(14250.0, len(signal)), [0], []
+    for given in [*map(jumps.push, numpy.array_split(signal, 6, axis=1)), jumps.finish()]:
+        lengths[-1:] = [lengths[-1] + given[0].shape[1], *(part.shape[1] for part in given[1:])]
+        parts += given
+    assert (numpy.concatenate(parts, axis=1) == signal).all()
+    return lengths
+
+
+# By how much a carrier's phase jumps, how fast it turns, and after how many samples; or where there is no jump.
+JUMPS = [
+    (19.66, 0, None),
+    (19.68, 0, 14250),
+    (45, -25, 14297),
+    (45, 25, 27000),
+    (90, 12, 14280),
+    (170, 0, None),
+]
+
+
+@pytest.mark.parametrize("degrees, hertz, place", JUMPS)
+def test_jumps_of_a_carrier(degrees: float, hertz: float, place: Any) -> None:
+    """They are told to the sample. Nearly half a turn is none, since symbols have either sign."""
+    signal = numpy.exp(2j * math.pi * hertz / 14250 * numpy.arange(28500))
+    signal[place or 14250 :] *= numpy.exp(1j * math.radians(degrees))
+    found = lengths_between_jumps(numpy.stack([signal, 0 * signal]))
+    assert found == ([place, 28500 - place] if place else [28500])
+
+
+@pytest.mark.parametrize("count, jumps", [(3, 0), (4, 1), (7, 1)])
+def test_samples_that_were_dropped(count: int, jumps: int) -> None:
+    """Of twelve per symbol; the place is known to a symbol."""
+    chips = chips_of(numpy.random.default_rng(1).integers(0, 2, 3600))
+    signal = numpy.delete(baseband(chips, numpy.arange(42000) / 6), slice(20000, 20000 + count))
+    place, *rest = lengths_between_jumps(signal[None] + 0j)
+    assert len(rest) == jumps and (not jumps or abs(place - 20000) <= 12)
