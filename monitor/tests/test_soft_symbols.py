@@ -12,12 +12,13 @@ import pytest
 from captures import Sent, alone, captured
 from conftest import encode, monitor, rds
 from measure_demod import bits_of
-from modulator import Array, dropped, iq, mpx, stored, wav, words
+from modulator import Array, baseband, chips_of, dropped, iq, mpx, stored, wav, words
 
 from rds_monitor.rows.blocks import BlockCounter
 from rds_monitor.signal.phase import PhaseTrack
 from rds_monitor.signal.receiver import Capture
 from rds_monitor.signal.soft import SoftSymbols
+from rds_monitor.signal.symbols import SymbolChain, Symbols, interpolated
 
 RATE = 192000
 SENT = encode(words(5, 60))
@@ -34,12 +35,40 @@ def bits_between(symbols: Array) -> Array:
 
 
 def test_a_phase_goes_on_as_it_turned() -> None:
-    """Over steps of which nothing is known."""
+    """Over steps of which nothing is known, and as fast as it may. The coherence is by the weights of the four steps on both sides."""
     values = numpy.exp(0.05j * numpy.arange(900))
     values[400:600] = 0
     track = PhaseTrack(4, 8, 0.2, 0.5)
-    found = numpy.concatenate([track.push(part).phase for part in numpy.split(values, 9)])
-    assert numpy.diff(found) == pytest.approx(numpy.full(found.size - 1, 0.05))
+    parts = zip(*map(track.push, numpy.split(values, 300)))
+    phase, _, coherence = numpy.stack([numpy.concatenate(column) for column in parts])
+    assert numpy.diff(phase) == pytest.approx(numpy.full(891, 0.05))
+    weights = [(1 + math.cos(math.pi * beside / 5)) / 10 for beside in range(-4, 5)]
+    assert coherence[395:405] == pytest.approx([sum(weights[:count]) for count in range(9, -1, -1)])
+    assert PhaseTrack(4, 8, 0.2, 0.5).push(numpy.exp(0.3j * numpy.arange(60))).turn[9:] == pytest.approx(0.2)
+
+
+def test_a_cubic_between_samples() -> None:
+    cubic, places = numpy.polynomial.Polynomial([1, -3, 0.5, 2j]), numpy.arange(1, 5, 0.3)
+    assert interpolated(cubic(numpy.arange(7)), places) == pytest.approx(cubic(places))
+
+
+@pytest.mark.parametrize("ppm, hertz, begin", [(0, 0, 12), (-2900, 29.5, 6), (3100, 0, 12), (0, -30.5, 12)])
+def test_how_far_clock_and_carrier_are_followed(ppm: float, hertz: float, begin: int) -> None:
+    """To 0.3 % and to 30 Hz, by which the squares of eight symbols are less coherent. The first symbol has a sample before it."""
+    places, chips = numpy.arange(28500), chips_of(numpy.unpackbits(numpy.frombuffer(SENT, "u1")))
+    signal = baseband(chips[2 - begin // 6 :], places * (1 + ppm / 1e6) / 6)
+    signal, chain = signal * numpy.exp(2j * math.pi * hertz / 14250 * places), SymbolChain(14250.0)
+    parts = [*map(chain.push, numpy.split(signal, 50)), chain.finish()]
+    found = Symbols(*(numpy.concatenate(column, axis=-1) for column in zip(*parts)))
+    inner, turn = slice(60, -60), 2 * math.pi * hertz / 1187.5
+    assert found.fast[inner] == pytest.approx(min(ppm / 1e6, 0.003), abs=1e-5)
+    assert found.offset[inner] == pytest.approx(max(hertz, -30), abs=0.1)
+    if ppm < 3000 and hertz > -30:
+        coherence = math.sin(8 * turn) / math.sin(turn) / 8 if turn else 1
+        assert found.coherence[inner] == pytest.approx(coherence, abs=0.005)
+        assert found.symbols[160:-160].imag == pytest.approx(0, abs=0.1)
+        end = begin + 12 * found.symbols.size / (1 + ppm / 1e6)
+        assert found.locked.all() and (chain.begin, chain.end) == pytest.approx((begin, end), abs=1.5)
 
 
 # ---- by a definition
