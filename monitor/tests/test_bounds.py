@@ -4,6 +4,7 @@ from __future__ import annotations
 
 import argparse
 import math
+from fractions import Fraction
 from typing import Any, Callable, List, Tuple
 
 import numpy
@@ -19,7 +20,7 @@ from rds_monitor.page.line import CUT, join
 from rds_monitor.rows.clock import number_of, rate_of, start_of
 from rds_monitor.rows.inputs import bits_of, gaps_of, input_options, margin_of, rules_of
 from rds_monitor.rows.items import Fault, Misuse
-from rds_monitor.signal.filters import at_least, fast_size
+from rds_monitor.signal.filters import Bands, Passband, at_least, fast_size
 from rds_monitor.signal.jumps import Jumps
 from rds_monitor.watch.check import Reception, limits_of, percent_of, seen_in
 from rds_monitor.watch.table import table_of
@@ -164,6 +165,27 @@ def test_sizes_of_transforms(number: float) -> None:
     assert fast_size(number) == min(
         64 * k for k in range(1, 999) if has_small_factors(k) and 64 * k >= number
     )
+
+
+@pytest.mark.parametrize(
+    "is_real, tone, centre", [(1, 57500, 57000), (1, 56e3, 57010), (0, -3e4, -31e3), (0, 93e3, 95e3)]
+)
+def test_a_tone_in_a_band(is_real: int, tone: float, centre: float) -> None:
+    """It is shifted to 0 Hz, as strong as the filter says. A band of complex samples is around a bin, and may go on from the last one to
+    the first one."""
+    gain = lambda frequencies: numpy.maximum(0, 1 - abs(frequencies) / 5000)
+    band = Passband(Fraction(192000), centre, 5000, gain, 14250, 8192, bool(is_real))
+    wave = numpy.exp(2j * math.pi * tone / 192000 * numpy.arange(60000)).astype("c8")
+    signal, bands = numpy.stack([wave.real if is_real else wave, 0 * wave.real]), Bands([band], 2)
+    parts = [*map(bands.push, numpy.split(signal, 3, axis=1)), bands.finish()]
+    found = numpy.concatenate([rows for (rows,) in parts], axis=1)
+    assert (band.rate_out, found.shape) == (15000, (2, 4688)) and not found[1].any()
+    beside = tone - float(band.centre)
+    still = found[0] * numpy.exp(-2j * math.pi * beside / 15000 * numpy.arange(4688))
+    strength, inner = 1 - abs(beside) / 5000, still[200:-200]
+    assert inner == pytest.approx(inner[0], abs=0.02)
+    assert abs(inner) == pytest.approx(strength, abs=0.02) and 0.3 < abs(still[0]) / strength < 0.7
+    assert abs(band.centre - centre) <= (0 if is_real else 192000 / 8192 / 2)
 
 
 def test_stretches_a_tenth_apart_are_one() -> None:
