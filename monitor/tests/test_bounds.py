@@ -22,6 +22,8 @@ from rds_monitor.rows.inputs import bits_of, gaps_of, input_options, margin_of, 
 from rds_monitor.rows.items import Fault, Misuse
 from rds_monitor.signal.filters import Bands, Passband, at_least, fast_size
 from rds_monitor.signal.jumps import Jumps
+from rds_monitor.signal.receiver import Quality, Strength
+from rds_monitor.signal.symbols import Symbols
 from rds_monitor.watch.check import Reception, limits_of, percent_of, seen_in
 from rds_monitor.watch.table import table_of
 from rds_monitor.watch.verdict import CRITICAL, OK, WARNING, Limits, Seen, Verdict
@@ -186,6 +188,41 @@ def test_a_tone_in_a_band(is_real: int, tone: float, centre: float) -> None:
     assert inner == pytest.approx(inner[0], abs=0.02)
     assert abs(inner) == pytest.approx(strength, abs=0.02) and 0.3 < abs(still[0]) / strength < 0.7
     assert abs(band.centre - centre) <= (0 if is_real else 192000 / 8192 / 2)
+
+
+def test_what_is_said_of_symbols() -> None:
+    """Of 620 segments of eight, the last 520 are locked. The signal as it came is twice as strong as the one that was decided."""
+    values, coherence = numpy.tile([3 + 0.5j, -3 + 0.5j], 2480), numpy.repeat([0.29, 0.3], [100, 520])
+    found = Symbols(
+        values, numpy.full(620, 2.512), coherence, numpy.full(620, 3.04e-5), numpy.full(620, 0.05)
+    )
+    quality = Quality(0.25)
+    quality.add(found, found._replace(symbols=2 * values))
+    quality.pilot = [0.5, 1.5]
+    snr = round(10 * math.log10((9 - 0.25) / (2 * 0.25 * 4800 / 1187.5)), 1)
+    assert [quality.recent(), quality.recent()] == [Strength(None, snr), Strength(None, None)]
+    # Of two chips, each with the amplitude of a carrier.
+    level = 20 * math.log10(math.sqrt(4 * (9 - 0.25)) / 2)
+    told = {"seconds": 4.2, "locked": 0.8387, "received": 0.0, "first_lock_s": 0.7, "snr_db": snr}
+    told |= {"carrier_offset_hz": 2.51, "clock_offset_ppm": 30.4, "rds_khz": None, "level_dbfs": None}
+    told |= {"rds_dbfs": round(level + 20 * math.log10(4), 1), "rds_to_pilot_db": round(level, 1)}
+    assert quality.report() == told
+
+
+@pytest.mark.parametrize("middle", [range(211, 241), range(160, 190)])
+@pytest.mark.parametrize("more, count", [(519, 0), (521, 3)])
+def test_when_there_is_a_pilot(middle: range, more: int, count: int) -> None:
+    """If it is above 20 times the noise of the 13 bins around its place, in each eighth spectrum. The noise is the median of the 30 bins
+    from 11 bins on on each side, of which those of one side are stronger here."""
+    power = numpy.full((2, 2000), 9.0)
+    power[1, 160:241] = 1
+    power[1, [*middle]] = 3
+    power[1, 190:211] = numpy.where(abs(numpy.arange(-10, 11)) > 6, 99, 2)
+    power[1, 206 if middle[0] > 200 else 194] += more
+    quality = Quality(1.0, pilot=[5.0] * 64)
+    for _ in range(17):
+        quality.watch(numpy.sqrt(power), 95.0, 512)
+    assert quality.pilot == pytest.approx([5.0] * (64 - count) + [more * (2 / 512) ** 2] * count)
 
 
 def test_stretches_a_tenth_apart_are_one() -> None:
