@@ -21,6 +21,7 @@ from rds_monitor.rows.clock import number_of, rate_of, start_of
 from rds_monitor.rows.inputs import bits_of, gaps_of, input_options, margin_of, rules_of
 from rds_monitor.rows.items import Fault, Misuse
 from rds_monitor.signal.filters import Bands, Passband, at_least, fast_size
+from rds_monitor.signal.found import is_inside, spectrum_of
 from rds_monitor.signal.jumps import Jumps
 from rds_monitor.signal.receiver import Quality, Strength
 from rds_monitor.signal.symbols import Symbols
@@ -188,6 +189,14 @@ def test_a_tone_in_a_band(is_real: int, tone: float, centre: float) -> None:
     assert inner == pytest.approx(inner[0], abs=0.02)
     assert abs(inner) == pytest.approx(strength, abs=0.02) and 0.3 < abs(still[0]) / strength < 0.7
     assert abs(band.centre - centre) <= (0 if is_real else 192000 / 8192 / 2)
+
+
+def test_the_power_of_a_spectrum() -> None:
+    """All bins together have that of the signal, by that of full scale. A station's channel may end with the band."""
+    power, offsets = spectrum_of(3 * numpy.exp(0.4j * math.pi * numpy.arange(8256)), 100000, 6.0)
+    assert power.sum() == pytest.approx(0.25) and abs(offsets[power.argmax()] - 20000) <= 1562.5 / 2
+    assert offsets == pytest.approx(1562.5 * numpy.arange(-32, 32))
+    assert [is_inside(offset, 600000) for offset in (-200e3, 200e3, 200.1e3)] == [True, True, False]
 
 
 def test_what_is_said_of_symbols() -> None:
