@@ -4,17 +4,20 @@ from __future__ import annotations
 
 import json
 import math
+from fractions import Fraction
 from pathlib import Path
 from typing import Callable, Dict, List, Tuple
 
 import numpy
 import pytest
+from numpy.lib.stride_tricks import sliding_window_view
 from captures import Sent, alone, captured
 from conftest import encode, monitor, rds
 from measure_demod import bits_of
 from modulator import Array, baseband, chips_of, dropped, iq, mpx, stored, wav, words
 
 from rds_monitor.rows.blocks import BlockCounter
+from rds_monitor.signal.fm import Equaliser, FmReceiver, channel_filter
 from rds_monitor.signal.phase import PhaseTrack
 from rds_monitor.signal.receiver import Capture
 from rds_monitor.signal.soft import SoftSymbols
@@ -140,6 +143,61 @@ def test_symbols_without_noise(symbols: Array) -> None:
     maker = SoftSymbols()
     found = signed(numpy.concatenate([maker.push(symbols), maker.finish()]))
     assert (found == (127 if symbols[0] == 1 else symbols[0].real > 0)).all()
+
+
+def equalised(signal: Array) -> Array:
+    """Of 32 taps, fitted in blocks of 1,024, each with half of the sums before: the nearest ones to an amplitude of 1, but held to those
+    before by 0.02 and to a plain filter by twice the variance of the amplitude."""
+    padded = numpy.concatenate([numpy.zeros(31), signal, numpy.zeros(1024)])
+    taps, own, wanted = numpy.zeros((3, 32), complex)
+    taps[16], variance, beside, found = (
+        1 / abs(padded[:1055]).mean(),
+        0.1,
+        numpy.subtract.outer(*[range(32)] * 2),
+        [],
+    )
+    for begin in range(0, signal.size, 1024):
+        block = padded[begin : begin + 1055]
+        windows = sliding_window_view(block, 32)[:, ::-1]
+        output = windows @ taps
+        sizes = numpy.maximum(abs(output), 1e-12)
+        variance = (variance + min(1, sizes.var() / sizes.mean() ** 2)) / 2
+        own = own / 2 + [block[lag : lag + 1024] @ block[:1024].conj() for lag in range(32)]
+        wanted = wanted / 2 + windows.conj().T @ (output / sizes)
+        squares = numpy.where(beside >= 0, own[abs(beside)], own[abs(beside)].conj())
+        steady, plain, right = 0.02 * own[0].real, 2 * variance * own[0].real, wanted.copy()
+        right[16] *= 1 + 2 * variance
+        after = numpy.linalg.solve(squares + (steady + plain) * numpy.eye(32), right + steady * taps)
+        found.append(output + windows @ (after - taps) * numpy.arange(1024) / 1024)
+        taps = after
+    return numpy.concatenate(found)[: signal.size]
+
+
+def test_the_equaliser_by_its_definition() -> None:
+    """Of a signal with an echo and noise, beside which it comes 16 samples late."""
+    random, equaliser = numpy.random.default_rng(1), Equaliser()
+    sent = numpy.exp(1j * random.normal(0, 0.4, 5000).cumsum())
+    signal = 2 * sent + 1.2j * numpy.roll(sent, 3) + random.normal(0, 0.1, 5000)
+    parts = [*map(equaliser.push, numpy.array_split(signal, 3)), equaliser.finish()]
+    found, plain = numpy.concatenate(parts, axis=1)
+    assert (
+        found == pytest.approx(equalised(signal))
+        and (plain[16:] == signal[:-16]).all()
+        and len(plain) == 5000
+    )
+
+
+def test_the_channel_and_the_discriminator() -> None:
+    """The filter has a half in the middle of its edge. A tenth of 75 kHz is 0.1."""
+    frequencies = numpy.array([0, 82e3, -99e3, 116e3, -2e5])
+    assert channel_filter(frequencies) == pytest.approx([1, 1, 0.5, 0, 0])
+    tone, receiver = 2 * numpy.exp(0.075j * math.pi * numpy.arange(900)), FmReceiver(Fraction(200000), False)
+    parts = [*map(receiver.push, numpy.split(tone.astype("c8"), 3)), receiver.finish()]
+    (found,) = numpy.concatenate(parts, axis=1)
+    assert found[1:] == pytest.approx(0.1, rel=1e-5) and found.size == 900
+    assert receiver.level == pytest.approx((3600, 900)) and receiver.response(1e5) == pytest.approx(
+        2 / math.pi
+    )
 
 
 # ---- of a signal
