@@ -17,7 +17,7 @@ from measure_demod import bits_of
 from modulator import Array, baseband, chips_of, dropped, iq, mpx, stored, wav, words
 
 from rds_monitor.rows.blocks import BlockCounter
-from rds_monitor.signal.fm import Equaliser, FmReceiver, channel_filter
+from rds_monitor.signal.fm import Equaliser, FmReceiver, channel_filter, station_channels
 from rds_monitor.signal.phase import PhaseTrack
 from rds_monitor.signal.receiver import Capture
 from rds_monitor.signal.soft import SoftSymbols
@@ -180,15 +180,22 @@ def test_the_equaliser_by_its_definition() -> None:
     signal = 2 * sent + 1.2j * numpy.roll(sent, 3) + random.normal(0, 0.1, 5000)
     parts = [*map(equaliser.push, numpy.array_split(signal, 3)), equaliser.finish()]
     found, plain = numpy.concatenate(parts, axis=1)
-    assert (
-        found == pytest.approx(equalised(signal))
-        and (plain[16:] == signal[:-16]).all()
-        and len(plain) == 5000
-    )
+    assert found == pytest.approx(equalised(signal)) and (plain[16:] == signal[:-16]).all()
+
+    # What is below each sample form is silence.
+    assert [Equaliser().push(numpy.full(1100, size + 0j)).any() for size in (1e-10, 0.5)] == [False, True]
 
 
 def test_the_channel_and_the_discriminator() -> None:
-    """The filter has a half in the middle of its edge. A tenth of 75 kHz is 0.1."""
+    """Of IQ up to 256,000 Hz all is one channel, else it is cut to 234,000 Hz or a little more, in blocks of a sixtieth of a second or
+    more. The filter has a half in the middle of its edge. A tenth of 75 kHz is 0.1."""
+    cut = [
+        station_channels(*of)
+        for of in ((256000, [0]), (256001, [0]), (245760, [1]), (249856, [1]), (2400000, [1e5]))
+    ]
+    bands = [found.bands[0] for found in cut if found]
+    assert cut[0] is None and [band.block for band in bands] == [8192, 4096, 8192, 65536]
+    assert all(234000 <= band.rate_out < 245761 and not band.is_real for band in bands)
     frequencies = numpy.array([0, 82e3, -99e3, 116e3, -2e5])
     assert channel_filter(frequencies) == pytest.approx([1, 1, 0.5, 0, 0])
     tone, receiver = 2 * numpy.exp(0.075j * math.pi * numpy.arange(900)), FmReceiver(Fraction(200000), False)
