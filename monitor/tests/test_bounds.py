@@ -24,6 +24,7 @@ from rds_monitor.signal.filters import Bands, Passband, at_least, fast_size
 from rds_monitor.signal.found import is_inside, spectrum_of
 from rds_monitor.signal.jumps import Jumps
 from rds_monitor.signal.receiver import Quality, Strength
+from rds_monitor.signal.samples import checked
 from rds_monitor.signal.symbols import Symbols
 from rds_monitor.watch.check import Reception, limits_of, percent_of, seen_in
 from rds_monitor.watch.table import table_of
@@ -189,6 +190,13 @@ def test_a_tone_in_a_band(is_real: int, tone: float, centre: float) -> None:
     assert inner == pytest.approx(inner[0], abs=0.02)
     assert abs(inner) == pytest.approx(strength, abs=0.02) and 0.3 < abs(still[0]) / strength < 0.7
     assert abs(band.centre - centre) <= (0 if is_real else 192000 / 8192 / 2)
+
+
+def test_numbers_that_are_samples() -> None:
+    taken = numpy.array([0, 9.9e11, -9.9e11])
+    assert [part.tolist() for part in checked(taken, 5)] == [taken.tolist()]
+    with pytest.raises(Fault, match="^sample 9 is -1000000000000.0: "):
+        list(checked(numpy.array([*taken, -1e12]), 5))
 
 
 def test_the_power_of_a_spectrum() -> None:
