@@ -132,6 +132,7 @@ def test_lanes() -> None:
     lanes = Lanes()
     heard = [
         (1, "pi", "D393"),
+        (2, "ps", "no time"),
         (2, "ps", "A"),
         (3, "ps", "B"),
         (4, "tp", None),

@@ -239,6 +239,15 @@ def test_lost_symbols_are_erasures() -> None:
     assert lost.size == round(61_234 / RATE * 1187.5) % 104 and lost[-1] - lost[0] == lost.size - 1
 
 
+@pytest.mark.parametrize("count", [20, 100])
+def test_bits_that_are_no_blocks_go_on_by_the_clock(count: int) -> None:
+    """Of 162 samples per symbol one lacks some, and is counted: the bits after it stay as far from the first one as they were sent."""
+    bits = numpy.random.default_rng(3).integers(0, 2, 4000)
+    signal = numpy.delete(mpx(numpy.packbits(bits).tobytes(), RATE), slice(300_000, 300_000 + count))
+    (found,) = bits_of(Capture(RATE), signal)
+    assert all((found[at : at + 1000] == bits[at + 2 : at + 1002]).all() for at in (600, 2600))
+
+
 @pytest.mark.parametrize("count", [1, 2, 5])
 def test_bits_that_are_not_known_are_odd_or_even(count: int) -> None:
     """If they are in one block, of which each place is tried here, with no more bits than it has. Five may make either offset word of
