@@ -239,13 +239,15 @@ def test_lost_symbols_are_erasures() -> None:
     assert lost.size == round(61_234 / RATE * 1187.5) % 104 and lost[-1] - lost[0] == lost.size - 1
 
 
-@pytest.mark.parametrize("count", [20, 100])
-def test_bits_that_are_no_blocks_go_on_by_the_clock(count: int) -> None:
-    """Of 162 samples per symbol one lacks some, and is counted: the bits after it stay as far from the first one as they were sent."""
+@pytest.mark.parametrize("count, jump", [(20, 0), (100, 0), (0, 30)])
+def test_bits_that_are_no_blocks_go_on_by_the_clock(count: int, jump: float) -> None:
+    """Of 162 samples per symbol one lacks some, and is counted; or the carrier jumps, and nothing is lost. The bits after it stay as far
+    from the first one as they were sent."""
     bits = numpy.random.default_rng(3).integers(0, 2, 4000)
-    signal = numpy.delete(mpx(numpy.packbits(bits).tobytes(), RATE), slice(300_000, 300_000 + count))
+    signal = mpx(numpy.packbits(bits).tobytes(), RATE, jump=jump)
+    signal = numpy.delete(signal, slice(300_000, 300_000 + count))
     (found,) = bits_of(Capture(RATE), signal)
-    assert all((found[at : at + 1000] == bits[at + 2 : at + 1002]).all() for at in (600, 2600))
+    assert all((found[at : at + 200] == bits[at + 2 : at + 202]).all() for at in (610, 2690))
 
 
 @pytest.mark.parametrize("count", [1, 2, 5])
