@@ -116,7 +116,8 @@ def test_long_lists_have_a_row_per_step() -> None:
     }
     assert few.fewer(3600, 20).told(0) == few.told(0) and line.fewer(60).told(0) == line.told(0)
     assert line.fewer(120).parts[0].counts.tolist() == [[200, 180, 10, 6, 4]] * 90
-    assert line.told(-0.0056)["parts"][0]["at"] == 0.006
+    told = line.told(-0.0056)
+    assert told["parts"][0]["at"] == told["events"][0][0] == told["outages"][0][0] == 0.006
     # As many rows as a list may have are left as they are; of one item alone there are the first ones.
     whole, cut = line.fewer(3600, 181), line.fewer(3600, 180)
     assert (whole.outages, whole.events, whole.more) == (line.outages, line.events, 0)
