@@ -401,7 +401,7 @@ def test_pages_of_a_year(year: Path) -> None:
     assert march["totals"]["sent"] == 31 * 1440 // 2 * 5481
     # One minute in twenty counts for the mix. The second to the fourth day are one outage.
     mix = {name: 3 * count for name, count in json.loads(MIX).items()}
-    assert march["mix"][0] == [0, 3600, mix] and march["clock"][0] == [1800, 0.25]
+    assert march["mix"][6] == [21600, 25200, mix] and march["clock"][0] == [1800, 0.25]
     assert march["sessions"][0] == [0, 86400, 86400, 720 * 5481, 720 * 5441]
     assert [86400, 4 * 86400, 3 * 86400] in march["outages"]
     assert told["held"]["AF"] == "98.5 101.2" and told["held"]["CT"] == "+0.250 s from the recording's clock"
