@@ -214,13 +214,13 @@ def test_the_report_of_symbols() -> None:
         values, numpy.full(620, 2.512), coherence, numpy.full(620, 3.04e-5), numpy.full(620, 0.05)
     )
     quality = Quality(0.25)
-    quality.add(found, found._replace(symbols=2 * values))
+    quality.add(found, found._replace(symbols=2 * found.symbols))
     quality.pilot = [0.5, 1.5]
     snr = round(10 * math.log10((9 - 0.25) / (2 * 0.25 * 4800 / 1187.5)), 1)
     assert [quality.recent(), quality.recent()] == [Strength(None, snr), Strength(None, None)]
     # A symbol has two chips, each with the amplitude of a carrier.
     level = 20 * math.log10(math.sqrt(4 * (9 - 0.25)) / 2)
-    told = {"seconds": 4.2, "locked": 0.8387, "received": 0.0, "first_lock_s": 0.7, "snr_db": snr}
+    told: Any = {"seconds": 4.2, "locked": 0.8387, "received": 0.0, "first_lock_s": 0.7, "snr_db": snr}
     told |= {"carrier_offset_hz": 2.51, "clock_offset_ppm": 30.4, "rds_khz": None, "level_dbfs": None}
     told |= {"rds_dbfs": round(level + 20 * math.log10(4), 1), "rds_to_pilot_db": round(level, 1)}
     assert quality.report() == told
