@@ -3,10 +3,14 @@
 from __future__ import annotations
 
 import argparse
+import math
+from fractions import Fraction
 from typing import Any, Callable, List, Tuple
 
+import numpy
 import pytest
 
+from modulator import Array, baseband, chips_of
 from network import stations
 from rds_monitor.db.standing import standing
 from rds_monitor.measures.errors import interval_of
@@ -16,7 +20,12 @@ from rds_monitor.page.line import CUT, join
 from rds_monitor.rows.clock import number_of, rate_of, start_of
 from rds_monitor.rows.inputs import bits_of, gaps_of, input_options, margin_of, rules_of
 from rds_monitor.rows.items import Fault, Misuse
-from rds_monitor.signal.filters import at_least, fast_size
+from rds_monitor.signal.filters import Bands, Passband, at_least, fast_size
+from rds_monitor.signal.found import is_inside, spectrum_of
+from rds_monitor.signal.jumps import Jumps
+from rds_monitor.signal.receiver import Quality, Strength
+from rds_monitor.signal.samples import checked
+from rds_monitor.signal.symbols import Symbols
 from rds_monitor.watch.check import Reception, limits_of, percent_of, seen_in
 from rds_monitor.watch.table import table_of
 from rds_monitor.watch.verdict import CRITICAL, OK, WARNING, Limits, Seen, Verdict
@@ -162,8 +171,111 @@ def test_sizes_of_transforms(number: float) -> None:
     )
 
 
+@pytest.mark.parametrize(
+    "is_real, tone, centre", [(1, 57500, 57000), (1, 56e3, 57010), (0, -3e4, -31e3), (0, 93e3, 95e3)]
+)
+def test_a_tone_in_a_band(is_real: int, tone: float, centre: float) -> None:
+    """It is shifted to 0 Hz, as strong as the filter says. A band of complex samples is around a bin, and may go on from the last one to
+    the first one."""
+    gain = lambda frequencies: numpy.maximum(0, 1 - abs(frequencies) / 5000)
+    band = Passband(Fraction(192000), centre, 5000, gain, 14250, 8192, bool(is_real))
+    wave = numpy.exp(2j * math.pi * tone / 192000 * numpy.arange(60000)).astype("c8")
+    signal, bands = numpy.stack([wave.real if is_real else wave, 0 * wave.real]), Bands([band], 2)
+    parts = [*map(bands.push, numpy.split(signal, 3, axis=1)), bands.finish()]
+    found = numpy.concatenate([rows for (rows,) in parts], axis=1)
+    assert (band.rate_out, found.shape) == (15000, (2, 4688)) and not found[1].any()
+    beside = tone - float(band.centre)
+    still = found[0] * numpy.exp(-2j * math.pi * beside / 15000 * numpy.arange(4688))
+    strength, inner = 1 - abs(beside) / 5000, still[200:-200]
+    assert inner == pytest.approx(inner[0], abs=0.02)
+    assert abs(inner) == pytest.approx(strength, abs=0.02) and 0.3 < abs(still[0]) / strength < 0.7
+    assert abs(band.centre - centre) <= (0 if is_real else 192000 / 8192 / 2)
+
+
+def test_numbers_that_are_samples() -> None:
+    taken = numpy.array([0, 9.9e11, -9.9e11])
+    assert [part.tolist() for part in checked(taken, 5)] == [taken.tolist()]
+    with pytest.raises(Fault, match="^sample 9 is -1000000000000.0: "):
+        list(checked(numpy.array([*taken, -1e12]), 5))
+
+
+def test_the_power_of_a_spectrum() -> None:
+    """All bins together have the power of the signal, by that of full scale. A station's channel may end with the band."""
+    power, offsets = spectrum_of(3 * numpy.exp(0.4j * math.pi * numpy.arange(8256)), 100000, 6.0)
+    assert power.sum() == pytest.approx(0.25) and abs(offsets[power.argmax()] - 20000) <= 1562.5 / 2
+    assert offsets == pytest.approx(1562.5 * numpy.arange(-32, 32))
+    assert [is_inside(offset, 600000) for offset in (-200e3, 200e3, 200.1e3)] == [True, True, False]
+
+
+def test_the_report_of_symbols() -> None:
+    """The last 520 of 620 segments are locked. The signal as it came is twice as strong as the one that was decided."""
+    values, coherence = numpy.tile([3 + 0.5j, -3 + 0.5j], 2480), numpy.repeat([0.29, 0.3], [100, 520])
+    found = Symbols(
+        values, numpy.full(620, 2.512), coherence, numpy.full(620, 3.04e-5), numpy.full(620, 0.05)
+    )
+    quality = Quality(0.25)
+    quality.add(found, found._replace(symbols=2 * found.symbols))
+    quality.pilot = [0.5, 1.5]
+    snr = round(10 * math.log10((9 - 0.25) / (2 * 0.25 * 4800 / 1187.5)), 1)
+    assert [quality.recent(), quality.recent()] == [Strength(None, snr), Strength(None, None)]
+    # A symbol has two chips, each with the amplitude of a carrier.
+    level = 20 * math.log10(math.sqrt(4 * (9 - 0.25)) / 2)
+    told: Any = {"seconds": 4.2, "locked": 0.8387, "received": 0.0, "first_lock_s": 0.7, "snr_db": snr}
+    told |= {"carrier_offset_hz": 2.51, "clock_offset_ppm": 30.4, "rds_khz": None, "level_dbfs": None}
+    told |= {"rds_dbfs": round(level + 20 * math.log10(4), 1), "rds_to_pilot_db": round(level, 1)}
+    assert quality.report() == told
+
+
+@pytest.mark.parametrize("middle", [range(211, 241), range(160, 190)])
+@pytest.mark.parametrize("more, count", [(519, 0), (521, 3)])
+def test_when_there_is_a_pilot(middle: range, more: int, count: int) -> None:
+    """Each eighth spectrum has one if its 13 bins have more than 20 times the noise. The noise is the median of 30 bins on each side, from
+    the 11th on; those of one side are stronger here."""
+    power = numpy.full((2, 2000), 9.0)
+    power[1, 160:241] = 1
+    power[1, [*middle]] = 3
+    power[1, 190:211] = numpy.where(abs(numpy.arange(-10, 11)) > 6, 99, 2)
+    power[1, 206 if middle[0] > 200 else 194] += more
+    quality = Quality(1.0, pilot=[5.0] * 64)
+    for _ in range(17):
+        quality.watch(numpy.sqrt(power), 95.0, 512)
+    assert quality.pilot == pytest.approx([5.0] * (64 - count) + [more * (2 / 512) ** 2] * count)
+
+
 def test_stretches_a_tenth_apart_are_one() -> None:
     found = [(-5.0, 0.0, "ALPHA")]
     join(found, (CUT, 2.0, "ALPHA"), CUT)
     join(found, (2.125, 3.0, "ALPHA"), CUT)
     assert found == [(-5.0, 2.0, "ALPHA"), (2.125, 3.0, "ALPHA")]
+
+
+def lengths_between_jumps(signal: Array) -> List[int]:
+    """A signal of 14,250 samples per second is given on as it came."""
+    jumps, lengths, parts = Jumps(14250.0, len(signal)), [0], []
+    for given in [*map(jumps.push, numpy.array_split(signal, 6, axis=1)), jumps.finish()]:
+        lengths[-1:] = [lengths[-1] + given[0].shape[1], *(part.shape[1] for part in given[1:])]
+        parts += given
+    assert (numpy.concatenate(parts, axis=1) == signal).all()
+    return lengths
+
+
+# The degrees by which a carrier's phase jumps, how fast it turns, and the samples before the jump, or None if it is too small.
+JUMPS = [(19.66, 0, None), (19.68, 0, 14250), (45, -25, 14297), (45, 25, 27000), (170, 0, None)]
+
+
+@pytest.mark.parametrize("degrees, hertz, place", JUMPS)
+def test_jumps_of_a_carrier(degrees: float, hertz: float, place: Any) -> None:
+    """Their places are known to the sample. Nearly half a turn is no jump, since symbols have either sign."""
+    signal = numpy.exp(2j * math.pi * hertz / 14250 * numpy.arange(28500))
+    signal[place or 14250 :] *= numpy.exp(1j * math.radians(degrees))
+    found = lengths_between_jumps(numpy.stack([signal, 0 * signal]))
+    assert found == ([place, 28500 - place] if place else [28500])
+
+
+@pytest.mark.parametrize("count, jumps", [(3, 0), (4, 1), (7, 1)])
+def test_samples_that_were_dropped(count: int, jumps: int) -> None:
+    """A symbol has twelve samples. The place is known to a symbol."""
+    chips = chips_of(numpy.random.default_rng(1).integers(0, 2, 3600))
+    signal = numpy.delete(baseband(chips, numpy.arange(42000) / 6), slice(20000, 20000 + count))
+    place, *rest = lengths_between_jumps(signal[None] + 0j)
+    assert len(rest) == jumps and (not jumps or abs(place - 20000) <= 12)

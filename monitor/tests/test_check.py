@@ -259,6 +259,9 @@ def test_only_the_end_of_a_long_file_is_read(tmp_path) -> None:
     good = int((len(rows) - len(rows) // 4) * 104 / 1187.5)
     judged(0, "RDS OK - 100.00 % *", "--last", good, path)
     judged(0, "RDS OK - 99.?? % *", "--last", good + 60, path)
+    # In 2.08 s there are 95 blocks, which are no whole number of bytes; 39 are valid, since the first of ten groups acquires sync.
+    path.write_bytes(bytes(1000) + encode([[0xD393, 0x0548, 0xE0CD, 0x5041]] * 10))
+    judged(2, f"RDS CRITICAL - {100 * 39 / 95:.2f} % of the blocks valid*", "--last", 2.08, path)
 
 
 # ---- the length, and names

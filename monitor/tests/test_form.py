@@ -21,7 +21,7 @@ from modulator import Array, iq, mpx, stored, wav, words
 from rds_monitor.signal import form
 from rds_monitor.signal.pack import READERS, Conversion, bits_of, packed_of
 from rds_monitor.signal.rates import BLOCK, _by_pilot, likely_rate
-from rds_monitor.signal.samples import FORMS as FORMS_OF_SAMPLES, numbers
+from rds_monitor.signal.samples import FORMS as FORMS_OF_SAMPLES, Flac, numbers
 
 STATION_BYTES = STATION.read_bytes()
 BITS = numpy.unpackbits(numpy.frombuffer(STATION_BYTES, "u1"))
@@ -190,6 +190,7 @@ def test_the_largest_number_of_a_form_is_its_full_scale() -> None:
     for name in ("u8", "s16", "s24", "s32"):
         (largest,) = numbers(stored(numpy.array([3.0]), name), name)
         assert 0.99 < largest / FORMS_OF_SAMPLES[name][1] <= 1, name
+    assert FORMS_OF_SAMPLES["f32"][1] == FORMS_OF_SAMPLES["f64"][1] == Flac.full_scale == 1
 
 
 @pytest.mark.parametrize("apart", [-9, -8, 8, 9])

@@ -18,7 +18,7 @@ from rds_monitor.rows.heads import is_groups
 from rds_monitor.rows.items import BLOCKS, GROUP, LOST, UNKNOWN_TYPE, VALID, VERSION_A, VERSION_B
 from rds_monitor.rows.items import VERSION_UNKNOWN, Fault, Totals
 from rds_monitor.rows.listing import groups_in
-from made import output as said
+from made import listing, output as said, read as read_listing
 from sent import group, name, text
 
 
@@ -96,6 +96,7 @@ def test_a_log_of_rds_spy() -> None:
     assert rows["what"].tolist() == [1, 2, 2, 2, 3, 1, 2]
     assert (source.start, source.length) == (1774744200.09, last + 104)
     assert source.totals == Totals(12, (0,) * 5, 4, 0, groups=4, complete=2, acquired=2, losses=1)
+    assert (read_listing(listing([rows])) == rows).all()
 
 
 @pytest.mark.parametrize(

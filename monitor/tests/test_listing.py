@@ -291,6 +291,7 @@ def test_the_length_of_the_recording(station_listing: bytes) -> None:
     # A minute of 71,250 bits, and a tenth of the 520 bits with rows, are not too long yet.
     few = listing(lock(0, [(0xD318, 0x0548, 0xE0CD, 0x4E4F)] * 5, lost=False))
     assert len(read(few, length=71250 + 572)) == 6 and "is wrong" in refused(few, length=71250 + 573)
+    assert not len(read(listing([]), length=10**6))
 
 
 def test_the_extent_of_a_listing_and_of_a_part() -> None:
@@ -330,9 +331,10 @@ def test_progress_is_told_twice_a_second(
 @st.composite
 def locks(draw) -> List[Rows]:
     """Rows of random locks: any blocks, corrected, uncorrectable or not read."""
-    rows, place = [], draw(st.integers(0, 2**35))
+    rows, place = [], draw(st.integers(25, 2**35))
     for _ in range(draw(st.integers(0, 4))):
-        place += draw(st.integers(0, 300))
+        # The block that acquires may end with the first bit after a loss.
+        place += draw(st.sampled_from([-25, 0, 300]))
         first = draw(st.integers(1, 4))
         rows.append(acquired_row(place + 25, first))
         for _ in range(draw(st.integers(1, 5))):

@@ -115,6 +115,9 @@ def test_long_lists_have_a_row_per_step() -> None:
         "PTY": [(0, 7200, "A"), (7200, 10800, "several texts")],
     }
     assert few.fewer(3600, 20).told(0) == few.told(0) and line.fewer(60).told(0) == line.told(0)
+    assert line.fewer(120).parts[0].counts.tolist() == [[200, 180, 10, 6, 4]] * 90
+    told = line.told(-0.0056)
+    assert told["parts"][0]["at"] == told["events"][0][0] == told["outages"][0][0] == 0.006
     # As many rows as a list may have are left as they are; of one item alone there are the first ones.
     whole, cut = line.fewer(3600, 181), line.fewer(3600, 180)
     assert (whole.outages, whole.events, whole.more) == (line.outages, line.events, 0)
@@ -132,6 +135,7 @@ def test_lanes() -> None:
     lanes = Lanes()
     heard = [
         (1, "pi", "D393"),
+        (2, "ps", "no time"),
         (2, "ps", "A"),
         (3, "ps", "B"),
         (4, "tp", None),
@@ -397,7 +401,7 @@ def test_pages_of_a_year(year: Path) -> None:
     assert march["totals"]["sent"] == 31 * 1440 // 2 * 5481
     # One minute in twenty counts for the mix. The second to the fourth day are one outage.
     mix = {name: 3 * count for name, count in json.loads(MIX).items()}
-    assert march["mix"][0] == [0, 3600, mix] and march["clock"][0] == [1800, 0.25]
+    assert march["mix"][6] == [21600, 25200, mix] and march["clock"][0] == [1800, 0.25]
     assert march["sessions"][0] == [0, 86400, 86400, 720 * 5481, 720 * 5441]
     assert [86400, 4 * 86400, 3 * 86400] in march["outages"]
     assert told["held"]["AF"] == "98.5 101.2" and told["held"]["CT"] == "+0.250 s from the recording's clock"

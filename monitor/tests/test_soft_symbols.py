@@ -4,20 +4,24 @@ from __future__ import annotations
 
 import json
 import math
+from fractions import Fraction
 from pathlib import Path
 from typing import Callable, Dict, List, Tuple
 
 import numpy
 import pytest
+from numpy.lib.stride_tricks import sliding_window_view
 from captures import Sent, alone, captured
 from conftest import encode, monitor, rds
 from measure_demod import bits_of
-from modulator import Array, dropped, iq, mpx, stored, wav, words
+from modulator import Array, baseband, chips_of, dropped, iq, mpx, stored, wav, words
 
 from rds_monitor.rows.blocks import BlockCounter
+from rds_monitor.signal.fm import Equaliser, FmReceiver, channel_filter, station_channels
 from rds_monitor.signal.phase import PhaseTrack
 from rds_monitor.signal.receiver import Capture
 from rds_monitor.signal.soft import SoftSymbols
+from rds_monitor.signal.symbols import SymbolChain, Symbols, interpolated
 
 RATE = 192000
 SENT = encode(words(5, 60))
@@ -34,12 +38,40 @@ def bits_between(symbols: Array) -> Array:
 
 
 def test_a_phase_goes_on_as_it_turned() -> None:
-    """Over steps of which nothing is known."""
+    """Over steps of which nothing is known, and as fast as it may. The coherence is by the weights of the four steps on both sides."""
     values = numpy.exp(0.05j * numpy.arange(900))
     values[400:600] = 0
     track = PhaseTrack(4, 8, 0.2, 0.5)
-    found = numpy.concatenate([track.push(part).phase for part in numpy.split(values, 9)])
-    assert numpy.diff(found) == pytest.approx(numpy.full(found.size - 1, 0.05))
+    parts = zip(*map(track.push, numpy.split(values, 300)))
+    phase, _, coherence = numpy.stack([numpy.concatenate(column) for column in parts])
+    assert numpy.diff(phase) == pytest.approx(numpy.full(891, 0.05))
+    weights = [(1 + math.cos(math.pi * beside / 5)) / 10 for beside in range(-4, 5)]
+    assert coherence[395:405] == pytest.approx([sum(weights[:count]) for count in range(9, -1, -1)])
+    assert PhaseTrack(4, 8, 0.2, 0.5).push(numpy.exp(0.3j * numpy.arange(60))).turn[9:] == pytest.approx(0.2)
+
+
+def test_a_cubic_between_samples() -> None:
+    cubic, places = numpy.polynomial.Polynomial([1, -3, 0.5, 2j]), numpy.arange(1, 5, 0.3)
+    assert interpolated(cubic(numpy.arange(7)), places) == pytest.approx(cubic(places))
+
+
+@pytest.mark.parametrize("ppm, hertz, begin", [(0, 0, 12), (-2900, 29.5, 6), (3100, 0, 12), (0, -30.5, 12)])
+def test_how_far_clock_and_carrier_are_followed(ppm: float, hertz: float, begin: int) -> None:
+    """To 0.3 % and to 30 Hz, by which the squares of eight symbols are less coherent. The first symbol has a sample before it."""
+    places, chips = numpy.arange(28500), chips_of(numpy.unpackbits(numpy.frombuffer(SENT, "u1")))
+    signal = baseband(chips[2 - begin // 6 :], places * (1 + ppm / 1e6) / 6)
+    signal, chain = signal * numpy.exp(2j * math.pi * hertz / 14250 * places), SymbolChain(14250.0)
+    parts = [*map(chain.push, numpy.split(signal, 50)), chain.finish()]
+    found = Symbols(*(numpy.concatenate(column, axis=-1) for column in zip(*parts)))
+    inner, turn = slice(60, -60), 2 * math.pi * hertz / 1187.5
+    assert found.fast[inner] == pytest.approx(min(ppm / 1e6, 0.003), abs=1e-5)
+    assert found.offset[inner] == pytest.approx(max(hertz, -30), abs=0.1)
+    if ppm < 3000 and hertz > -30:
+        coherence = math.sin(8 * turn) / math.sin(turn) / 8 if turn else 1
+        assert found.coherence[inner] == pytest.approx(coherence, abs=0.005)
+        assert found.symbols[160:-160].imag == pytest.approx(0, abs=0.1)
+        end = begin + 12 * found.symbols.size / (1 + ppm / 1e6)
+        assert found.locked.all() and (chain.begin, chain.end) == pytest.approx((begin, end), abs=1.5)
 
 
 # ---- by a definition
@@ -113,6 +145,59 @@ def test_symbols_without_noise(symbols: Array) -> None:
     assert (found == (127 if symbols[0] == 1 else symbols[0].real > 0)).all()
 
 
+def equalised(signal: Array) -> Array:
+    """32 taps are fitted in blocks of 1,024 samples, with half of the sums of the blocks before. Those nearest to an amplitude of 1 are held
+    to the taps before by 0.02, and to a plain filter by twice the variance of the amplitude."""
+    padded = numpy.concatenate([numpy.zeros(31), signal, numpy.zeros(1024)])
+    taps, own, wanted = numpy.zeros((3, 32), complex)
+    taps[16], variance, found = 1 / abs(padded[:1055]).mean(), 0.1, []
+    beside = numpy.subtract.outer(range(32), range(32))
+    for begin in range(0, signal.size, 1024):
+        block = padded[begin : begin + 1055]
+        windows = sliding_window_view(block, 32)[:, ::-1]
+        output = windows @ taps
+        sizes = numpy.maximum(abs(output), 1e-12)
+        variance = (variance + min(1, sizes.var() / sizes.mean() ** 2)) / 2
+        own = own / 2 + [block[lag : lag + 1024] @ block[:1024].conj() for lag in range(32)]
+        wanted = wanted / 2 + windows.conj().T @ (output / sizes)
+        squares = numpy.where(beside >= 0, own[abs(beside)], own[abs(beside)].conj())
+        steady, plain, right = 0.02 * own[0].real, 2 * variance * own[0].real, wanted.copy()
+        right[16] *= 1 + 2 * variance
+        after = numpy.linalg.solve(squares + (steady + plain) * numpy.eye(32), right + steady * taps)
+        found.append(output + windows @ (after - taps) * numpy.arange(1024) / 1024)
+        taps = after
+    return numpy.concatenate(found)[: signal.size]
+
+
+def test_the_equaliser_by_its_definition() -> None:
+    """The signal has an echo and noise, and its plain copy comes 16 samples late."""
+    random, equaliser = numpy.random.default_rng(1), Equaliser()
+    sent = numpy.exp(1j * random.normal(0, 0.4, 5000).cumsum())
+    signal = 2 * sent + 1.2j * numpy.roll(sent, 3) + random.normal(0, 0.1, 5000)
+    parts = [*map(equaliser.push, numpy.array_split(signal, 3)), equaliser.finish()]
+    found, plain = numpy.concatenate(parts, axis=1)
+    assert found == pytest.approx(equalised(signal)) and (plain[16:] == signal[:-16]).all()
+    # An amplitude below any sample form is silence.
+    assert [Equaliser().push(numpy.full(1100, size + 0j)).any() for size in (1e-10, 0.5)] == [False, True]
+
+
+def test_the_channel_and_the_discriminator() -> None:
+    """IQ of up to 256,000 Hz is one channel. Other IQ is cut to 234,000 Hz or a little more, in blocks of a sixtieth of a second or more.
+    The filter has a half in the middle of its edge. A tenth of 75 kHz is 0.1."""
+    given = (256000, 0), (256001, 0), (245760, 1), (249856, 1), (2400000, 1e5)
+    cut = [station_channels(rate, [offset]) for rate, offset in given]
+    bands = [found.bands[0] for found in cut if found]
+    assert cut[0] is None and [band.block for band in bands] == [8192, 4096, 8192, 65536]
+    assert all(234000 <= band.rate_out < 245761 and not band.is_real for band in bands)
+    frequencies = numpy.array([0, 82e3, -99e3, 116e3, -2e5])
+    assert channel_filter(frequencies) == pytest.approx([1, 1, 0.5, 0, 0])
+    tone, receiver = 2 * numpy.exp(0.075j * math.pi * numpy.arange(900)), FmReceiver(Fraction(200000), False)
+    parts = [*map(receiver.push, numpy.split(tone.astype("c8"), 3)), receiver.finish()]
+    (found,) = numpy.concatenate(parts, axis=1)
+    assert found[1:] == pytest.approx(0.1, rel=1e-5) and found.size == 900
+    assert (*receiver.level, receiver.response(1e5)) == pytest.approx((3600, 900, 2 / math.pi))
+
+
 # ---- of a signal
 
 
@@ -143,6 +228,17 @@ def test_lost_symbols_are_erasures() -> None:
     found = signed(bits_of(Capture(RATE, soft=True), signal)[0])
     lost = numpy.flatnonzero(found == 0)
     assert lost.size == round(61_234 / RATE * 1187.5) % 104 and lost[-1] - lost[0] == lost.size - 1
+
+
+@pytest.mark.parametrize("count, jump", [(20, 0), (100, 0), (0, 30)])
+def test_bits_that_are_no_blocks_go_on_by_the_clock(count: int, jump: float) -> None:
+    """A symbol of 162 samples lacks some of them, and is counted; or the carrier jumps, and nothing is lost. The bits after it keep their
+    distance from the first one."""
+    bits = numpy.random.default_rng(3).integers(0, 2, 4000)
+    signal = mpx(numpy.packbits(bits).tobytes(), RATE, jump=jump)
+    signal = numpy.delete(signal, slice(300_000, 300_000 + count))
+    (found,) = bits_of(Capture(RATE), signal)
+    assert all((found[at : at + 200] == bits[at + 2 : at + 202]).all() for at in (610, 2690))
 
 
 @pytest.mark.parametrize("count", [1, 2, 5])
