@@ -1,8 +1,10 @@
 -- Bits that are packed from the signs of bytes.
 use Rattle.rds_code.proofs.Membership.{each_below}
 use Rattle.rds_stream.proofs.BitOrder.{shr_bit}
-use Rattle.rds_soft.proofs.Names.{common_steps, ◌≡◌, ℕ, ◌+◌, ◌-◌, ◌*◌, ◌/◌, ◌%◌, ◌<◌, ◌++◌, List, [], ◌∷◌, Bool, cond, ltb, length, drop, min, ap, ◌∙◌, arith, lit<, bit_xor, true, false, inl, inr, length-append, length-drop, ℤ, pos, slice_index, if◌then◌else◌, bit_at, cast_signed, is_positive, w8, cases_lt, le-ltb, lt-ltb, to_z_pos, min-eq_left, min-eq_right, get_or-map, get_or-drop, get_or_append_left, get_or-append-add, drop-drop, drop_all, packed_bit, xor_lt, bit_at_xor, bit_at_lowest, symbols_of, sign, hard_bit, sign_at}
+use Rattle.rds_soft.proofs.Names.{common_steps, ◌≡◌, ℕ, ◌+◌, ◌-◌, ◌*◌, ◌/◌, ◌%◌, ◌<◌, ◌++◌, ◌^◌, List, [], ◌∷◌, Bool, cond, ltb, length, drop, min, ap, refl, sym, ◌∙◌, arith, lit<, bit_xor, true, false, inl, inr, length-append, length-drop, ℤ, pos, slice_index, if◌then◌else◌, bit_at, cast_signed, is_positive, w8, cases_lt, le-ltb, lt-ltb, to_z_pos, min-eq_left, min-eq_right, get_or-map, get_or-drop, get_or_append_left, get_or-append-add, drop-drop, drop_all, packed_bit, xor_lt, bit_at_xor, bit_at_lowest, bit_at_cat_low, bit_at_cat_high, symbols_of, sign, hard_bit, sign_at}
 use mathlib.Core.Path.{ap₂}
+use Rattle.std.proofs.{Math.Nat.mod-lt, lemmas.Nat.pow_pos, lemmas.Nat.shr_split}
+use Rattle.std.specs.Int.{to_be_bytes, w64}
 use Rattle.std.proofs.Math.Facts.{to_z-neg}
 
 -- ---- signs
@@ -43,31 +45,70 @@ sign_up n up = ap (λ (b : Bool). (if b then 1 else 0)) (lt-ltb 0 n up)
 pub sign_by_test : (x : ℕ) → x < 256 → cond {A = ℕ} (ltb ((x + 255) % 256) 127) 1 0 ≡ sign (cast_signed w8 x)
 sign_by_test x small = grind (arith, common_steps, ltb, lt-ltb, sign_up, to_z_pos, le-ltb, to_z-neg)
 
--- ---- the bytes of a word of sixteen bits
+-- ---- words of bits, the first one highest
 
-high_bit : (x k : ℕ) → k < 8 → bit_at (x / 256) k ≡ bit_at x (8 + k)
-high_bit x k inside = shr_bit x 8 k
+-- the lowest m bits of a word
+low_bit : (x m k : ℕ) → k < m → bit_at (x % 2 ^ m) k ≡ bit_at x k
+low_bit x m k inside = sym (bit_at_cat_low (x / 2 ^ m) m (x % 2 ^ m) k inside) ∙ ap (λ (y : ℕ). bit_at y k) (shr_split x m)
 
-low_bit : (x k : ℕ) → k < 8 → bit_at (x % 256) k ≡ bit_at x k
-low_bit x = each_below (λ (k : ℕ). bit_at (x % 256) k ≡ bit_at x k) 8
-    (omega arith, (omega arith, (omega arith, (omega arith, (omega arith, (omega arith, (omega arith, (omega arith, tt))))))))
+-- two words of m bits in one
+pub joined_bit : (P : ℕ → ℕ) (a b m from : ℕ) → b < 2 ^ m → ((k : ℕ) → k < m → bit_at a (m - 1 - k) ≡ P (from + k))
+    → ((k : ℕ) → k < m → bit_at b (m - 1 - k) ≡ P (from + m + k))
+    → (k : ℕ) → k < m + m → bit_at (a * 2 ^ m + b) (m + m - 1 - k) ≡ P (from + k)
+joined_bit P a b m from small first second k inside = elim (cases_lt k m) [
+  | inl high ↦
+      bit_at_cat_high a m b (m + m - 1 - k) small (omega (arith, high))
+      ∙ ap (bit_at a) (omega (arith, high)) ∙ first k high
+  | inr low ↦
+      bit_at_cat_low a m b (m + m - 1 - k) (omega (arith, low, inside))
+      ∙ ap (bit_at b) (omega (arith, low, inside)) ∙ second (k - m) (omega (arith, low, inside)) ∙ ap P (omega (arith, low))
+]
 
--- two bytes of four such words, whose bits are those from place 16 m on
-module _ (P : ℕ → ℕ) (x m : ℕ) (are : (k : ℕ) → k < 16 → bit_at x (15 - k) ≡ P (m + k)) where
-  pub in_high : (r : ℕ) → r < 8 → bit_at (x / 256 % 256) (7 - r) ≡ P (m + r)
-  in_high r less = grind (arith, common_steps, low_bit, high_bit)
+-- the same of the lowest m bits of each
+pub joined_low_bit : (P : ℕ → ℕ) (a b m from : ℕ) → ((k : ℕ) → k < m → bit_at a (m - 1 - k) ≡ P (from + k))
+    → ((k : ℕ) → k < m → bit_at b (m - 1 - k) ≡ P (from + m + k))
+    → (k : ℕ) → k < m + m → bit_at (a % 2 ^ m * 2 ^ m + b % 2 ^ m) (m + m - 1 - k) ≡ P (from + k)
+joined_low_bit P a b m from first second =
+    joined_bit P (a % 2 ^ m) (b % 2 ^ m) m from (mod-lt b (pow_pos m))
+    (λ k inside. low_bit a m (m - 1 - k) (omega (arith, inside)) ∙ first k inside)
+    (λ k inside. low_bit b m (m - 1 - k) (omega (arith, inside)) ∙ second k inside)
 
-  pub in_low : (r : ℕ) → r < 8 → bit_at (x % 256) (7 - r) ≡ P (m + 8 + r)
-  in_low r less =
-      low_bit x (7 - r) (omega arith)
-      ∙ ap (bit_at x) (omega (arith, less))
-      ∙ are (8 + r) (omega (arith, less))
-      ∙ ap P (omega arith)
+-- a word of 64 bits without its first one, and with one more
+pub next_bit : (P : ℕ → ℕ) (x last : ℕ) → last < 2 → ((k : ℕ) → k < 64 → bit_at x (63 - k) ≡ P k) → last ≡ P 64
+    → (k : ℕ) → k < 64 → bit_at (x % 2 ^ 63 * 2 ^ 1 + last) (63 - k) ≡ P (k + 1)
+next_bit P x last digit each is k inside =
+    let lowest : bit_at last 0 ≡ last = omega (arith, digit, bit_at_lowest last) in
+    let end : 63 - k ≡ 0 → bit_at (x % 2 ^ 63 * 2 ^ 1 + last) (63 - k) ≡ bit_at (x % 2 ^ 63 * 2 ^ 1 + last) 0 = ap (bit_at (x % 2 ^ 63 * 2 ^ 1 + last)) in
+    elim (cases_lt k 63) [
+      | inl before ↦
+          bit_at_cat_high (x % 2 ^ 63) 1 last (63 - k) digit (omega (arith, before))
+          ∙ low_bit x 63 (63 - k - 1) (omega (arith, before))
+          ∙ ap (bit_at x) (omega (arith, before)) ∙ each (k + 1) (omega (arith, before))
+      | inr at ↦
+          end (omega (arith, at, inside))
+          ∙ bit_at_cat_low (x % 2 ^ 63) 1 last 0 (lit< tt)
+          ∙ lowest ∙ is ∙ ap P (omega (arith, at, inside))
+    ]
 
 -- bytes by their bits
-pub of_bytes : (bytes : List ℕ) (P : ℕ → ℕ) → ((q r : ℕ) → q < length bytes → r < 8 → bit_at (slice_index bytes q) (7 - r) ≡ P (8 * q + r))
+of_bytes : (bytes : List ℕ) (P : ℕ → ℕ) → ((q r : ℕ) → q < length bytes → r < 8 → bit_at (slice_index bytes q) (7 - r) ≡ P (8 * q + r))
     → (i : ℕ) → i < 8 * length bytes → packed_bit bytes i ≡ P i
 of_bytes bytes P each i inside = each (i / 8) (i % 8) (omega arith) (omega arith) ∙ ap P (omega arith)
+
+-- the eight bytes of a word
+byte_at : (x q : ℕ) → q < 8 → slice_index (to_be_bytes w64 x) q ≡ x / 2 ^ (8 * (7 - q)) % 2 ^ 8
+byte_at x =
+    each_below (λ (q : ℕ). slice_index (to_be_bytes w64 x) q ≡ x / 2 ^ (8 * (7 - q)) % 2 ^ 8) 8
+    (refl, (refl, (refl, (refl, (refl, (refl, (refl, (omega arith, tt))))))))
+
+pub word_bit : (x i : ℕ) → i < 64 → packed_bit (to_be_bytes w64 x) i ≡ bit_at x (63 - i)
+word_bit x =
+    of_bytes (to_be_bytes w64 x) (λ (i : ℕ). bit_at x (63 - i))
+    (λ q r inside less.
+    ap (λ (byte : ℕ). bit_at byte (7 - r)) (byte_at x q inside)
+    ∙ low_bit (x / 2 ^ (8 * (7 - q))) 8 (7 - r) (omega (arith, less))
+    ∙ shr_bit x (8 * (7 - q)) (7 - r)
+    ∙ ap (bit_at x) (omega (arith, inside, less)))
 
 -- ---- bytes one after the other
 

@@ -1,7 +1,7 @@
 //! Symbols as the packed bits between them.
-ghost use Rattle.std.specs.{Prelude.◌≡◌, Prelude.◌+◌, Prelude.◌*◌, Prelude.◌-◌, Prelude.◌<◌, Prelude.◌≤◌, Prelude.ℕ, Prelude.IfOk, Prelude.length, Int.bit_at};
+ghost use Rattle.std.specs.{Prelude.◌≡◌, Prelude.◌+◌, Prelude.◌*◌, Prelude.◌-◌, Prelude.◌^◌, Prelude.◌<◌, Prelude.◌≤◌, Prelude.ℕ, Prelude.IfOk, Prelude.length, Int.bit_at, Int.cast_signed, Int.w8};
 ghost use Rattle.rds_stream.specs.Recording.{packed_bit};
-ghost use Rattle.rds_soft.specs.{ReadAgain.symbols_of, Symbols.hard_bit, Inside.Packed.sign_at};
+ghost use Rattle.rds_soft.specs.{ReadAgain.symbols_of, Symbols.hard_bit, Symbols.sign, Inside.Packed.sign_at};
 
 use std::alloc::{AllocError, Global};
 use std::simd::prelude::*;
@@ -51,29 +51,32 @@ fn last_bytes(symbols: &[u8]) -> [u8; 8]
 fn bytes_between(symbols: &[u8; 65]) -> [u8; 8]
     ensures { (i : ℕ) → i < 64 → packed_bit result i ≡ hard_bit (symbols_of symbols.now) i }
 {
-    let a = bits_from(symbols, 0);
-    let b = bits_from(symbols, 16);
-    let c = bits_from(symbols, 32);
-    let d = bits_from(symbols, 48);
-    [
-        (a / 256 % 256) as u8,
-        (a % 256) as u8,
-        (b / 256 % 256) as u8,
-        (b % 256) as u8,
-        (c / 256 % 256) as u8,
-        (c % 256) as u8,
-        (d / 256 % 256) as u8,
-        (d % 256) as u8,
-    ]
+    let high = half_signs(symbols, 0);
+    let low = half_signs(symbols, 32);
+    let signs = high * 0x1_0000_0000 + low;
+    let next = signs % 0x8000_0000_0000_0000 * 2 + sign_of(symbols[64]);
+    (signs ^ next).to_be_bytes()
 }
 
-/// The sixteen bits from a symbol on, the first one highest.
+/// The signs of 32 symbols from one on, the first one highest.
 #[inline(always)]
-fn bits_from(symbols: &[u8; 65], from: usize) -> u64
-    requires { from + 17 ≤ 65 }
-    ensures { (k : ℕ) → k < 16 → bit_at result (15 - k) ≡ hard_bit (symbols_of symbols.now) (from + k) }
+fn half_signs(symbols: &[u8], from: usize) -> u64
+    requires { from + 32 ≤ length symbols.now }
+    ensures each { (k : ℕ) → k < 32 → bit_at result (31 - k) ≡ sign_at symbols.now (from + k) }
+    ensures small { result < 2 ^ 32 }
 {
-    signs_from(symbols, from) ^ signs_from(symbols, from + 1)
+    let high = signs_from(symbols, from);
+    let low = signs_from(symbols, from + 16);
+    high % 0x1_0000 * 0x1_0000 + low % 0x1_0000
+}
+
+/// The sign of a symbol.
+#[inline(always)]
+fn sign_of(symbol: u8) -> u64
+    ensures value { result ≡ sign (cast_signed w8 symbol) }
+    ensures digit { result < 2 }
+{
+    u64::from(symbol.cast_signed().is_positive())
 }
 
 /// The signs of sixteen symbols from one on, the first one highest.

@@ -1,27 +1,19 @@
-use Rattle.rds_code.proofs.Membership.{each_below}
-use Rattle.rds_soft.proofs.Names.{◌≡◌, ℕ, ◌+◌, ◌*◌, ◌-◌, ◌/◌, ◌%◌, ◌<◌, List, [], ◌∷◌, slice_index, bit_at, symbols_of, hard_bit}
-use Rattle.rds_soft.proofs.PackLemmas.{in_high, in_low, of_bytes}
+use Rattle.rds_soft.proofs.Names.{◌≡◌, ◌<◌, ℕ, bit_at, ◌+◌, ◌-◌, ◌*◌, ◌^◌, ◌%◌, ◌∙◌, List, packed_bit, ap, arith, bit_xor, sign_at}
+use Rattle.rds_soft.proofs.PackLemmas.{bit_between, joined_bit, next_bit, word_bit}
 use Rattle.rds_soft.proofs.pack.bytes_between.Goals as goal
 
--- the bytes of four words of sixteen bits
-abbrev bytes_of : ℕ → ℕ → ℕ → ℕ → List ℕ
-bytes_of a b c d = a / 256 % 256 ∷ a % 256 ∷ b / 256 % 256 ∷ b % 256 ∷ c / 256 % 256 ∷ c % 256 ∷ d / 256 % 256 ∷ d % 256 ∷ []
-
-abbrev Are : (ℕ → ℕ) → ℕ → ℕ → Type 0
-Are P x m = (k : ℕ) → k < 16 → bit_at x (15 - k) ≡ P (m + k)
-
-each : (P : ℕ → ℕ) (a b c d : ℕ) → Are P a 0 → Are P b 16 → Are P c 32 → Are P d 48
-    → (q r : ℕ) → q < 8 → r < 8 → bit_at (slice_index (bytes_of a b c d) q) (7 - r) ≡ P (8 * q + r)
-each P a b c d of_a of_b of_c of_d q r inside less =
-    each_below (λ (q : ℕ). bit_at (slice_index (bytes_of a b c d) q) (7 - r) ≡ P (8 * q + r)) 8
-    (in_high P a 0 of_a r less, (in_low P a 0 of_a r less, (in_high P b 16 of_b r less, (in_low P b 16 of_b r less, (in_high P c 32 of_c r less, (in_low P c 32 of_c r less, (in_high P d 48 of_d r less, (in_low P d 48 of_d r less, tt)))))))) q inside
-
 pub returns : goal.returns
-returns c =
-    let P : ℕ → ℕ = hard_bit (symbols_of c.args.symbols.now) in
-    let a : ℕ = c.bits_from-a.result in
-    let b : ℕ = c.bits_from-b.result in
-    let g : ℕ = c.bits_from-c.result in
-    let d : ℕ = c.bits_from-d.result in
-    of_bytes (bytes_of a b g d) P
-    (each P a b g d c.bits_from-a.ensures c.bits_from-b.ensures c.bits_from-c.ensures c.bits_from-d.ensures)
+returns c i inside =
+    let P : ℕ → ℕ = sign_at c.args.symbols.now in
+    let high : ℕ = c.half_signs-high.result in
+    let low : ℕ = c.half_signs-low.result in
+    let signs : ℕ = high * 2 ^ 32 + low in
+    let last : ℕ = c.sign_of.result in
+    let next : ℕ = signs % 2 ^ 63 * 2 ^ 1 + last in
+    let each : (k : ℕ) → k < 64 → bit_at signs (63 - k) ≡ P k = λ k less.
+    joined_bit P high low 32 0 c.half_signs-low.ensures.small c.half_signs-high.ensures.each c.half_signs-low.ensures.each k less
+    ∙ ap P (omega arith) in
+    ap (λ (bytes : List ℕ). packed_bit bytes i) c.to_be_bytes.ensures
+    ∙ word_bit (bit_xor signs next) i inside
+    ∙ bit_between c.args.symbols.now signs next (63 - i) i (omega (arith, c.told-symbols, inside))
+    (each i inside) (next_bit P signs last c.sign_of.ensures.digit each c.sign_of.ensures.value i inside)
