@@ -1,24 +1,28 @@
 -- Lists of items in little room.
-use Rattle.rds_soft.proofs.Names.{◌≡◌, ◌++◌, ◌+◌, ◌<◌, ◌∷◌, ◌∙◌, common_steps, ℕ, List, [], ap₂, arith, get_or_append_left, length, map-append, refl, take, append_assoc, All, All-head, All-tail, slice_index_or, SoftItem, SoftLostLock, Signal, Block, HardValid, Read, A, B, D, ℤ, InSoft, group_again, moved_again, get_or_push}
-use Rattle.rds_soft.specs.{SoftLists.third_offset, SoftLists.valid_group, Inside.Lists.IsAmong, Inside.Lists.item_at, Inside.Lists.items_at, declared.soft_list.Entry.Entry, declared.soft_list.Entry.TheVariants.At, declared.soft_list.Entry.TheVariants.Valid}
+use Rattle.rds_soft.proofs.Names.{◌≡◌, ◌++◌, ◌+◌, ◌-◌, ◌^◌, ◌<◌, cases_lt, inl, inr, le-ltb, lt-ltb, ◌∷◌, ◌∙◌, common_steps, ℕ, List, [], ap₂, arith, get_or_append_left, length, map-append, refl, take, append_assoc, All, All-head, All-tail, slice_index_or, SoftItem, SoftLostLock, Signal, Block, HardValid, Read, A, B, D, ℤ, InSoft, group_again, moved_again, get_or_push}
+use Rattle.rds_soft.specs.{SoftLists.third_offset, SoftLists.valid_group, Inside.Lists.IsAmong, Inside.Lists.item_at, Inside.Lists.items_at, declared.soft_list.ValidGroup.ValidGroup}
 
 -- one more of the others
-item-stays : (others : List SoftItem) (item : SoftItem) (entry : Entry) → IsAmong (length others) entry → item_at (others ++ item ∷ []) entry ≡ item_at others entry
-item-stays others item (Valid group) among = refl
-item-stays others item (At place) among = get_or_append_left others (item ∷ []) (SoftLostLock 0) place among
+item-stays : (others : List SoftItem) (item : SoftItem) (entry : ValidGroup) → IsAmong (length others) entry → item_at (others ++ item ∷ []) entry ≡ item_at others entry
+item-stays others item entry among = elim (cases_lt entry.place (2 ^ 63)) [
+  | inl early ↦ rw (lt-ltb entry.place (2 ^ 63) early) refl
+  | inr late ↦ rw (le-ltb entry.place (2 ^ 63) late) (get_or_append_left others (item ∷ []) (SoftLostLock 0) (entry.place - 2 ^ 63) (among late))
+]
 
-items-stay : (others : List SoftItem) (item : SoftItem) (entries : List Entry) → All (IsAmong (length others)) entries
+items-stay : (others : List SoftItem) (item : SoftItem) (entries : List ValidGroup) → All (IsAmong (length others)) entries
     → items_at (others ++ item ∷ []) entries ≡ items_at others entries
 items-stay others item [] among = refl
 items-stay others item (entry ∷ entries) among =
     ap₂ (λ (x : SoftItem) (xs : List SoftItem). x ∷ xs) (item-stays others item entry (All-head (IsAmong (length others)) entry entries among))
     (items-stay others item entries (All-tail (IsAmong (length others)) entry entries among))
 
-pub items_pushed : (others : List SoftItem) (item : SoftItem) (entries : List Entry) → All (IsAmong (length others)) entries
-    → items_at (others ++ item ∷ []) (entries ++ At (length others) ∷ []) ≡ items_at others entries ++ item ∷ []
-items_pushed others item entries among =
-    map-append (item_at (others ++ item ∷ [])) entries (At (length others) ∷ [])
-    ∙ ap₂ (λ (xs : List SoftItem) (x : SoftItem). xs ++ x ∷ []) (items-stay others item entries among) (get_or_push others item (SoftLostLock 0) (length others) refl)
+pub items_pushed : (others : List SoftItem) (item : SoftItem) (entries : List ValidGroup) (entry : ValidGroup) → entry.place ≡ 2 ^ 63 + length others → All (IsAmong (length others)) entries
+    → items_at (others ++ item ∷ []) (entries ++ entry ∷ []) ≡ items_at others entries ++ item ∷ []
+items_pushed others item entries entry at among =
+    let number : entry.place - 2 ^ 63 ≡ length others = omega (arith, at) in
+    map-append (item_at (others ++ item ∷ [])) entries (entry ∷ [])
+    ∙ ap₂ (λ (xs : List SoftItem) (x : SoftItem). xs ++ x ∷ []) (items-stay others item entries among)
+    (rw (le-ltb entry.place (2 ^ 63) (omega (arith, at)), number) (get_or_push others item (SoftLostLock 0) (length others) refl))
 
 -- a group of four valid blocks stays as it is
 pub valid_again : (b : Signal) (symbols : List ℤ) (margin place d : ℕ) (blocks : List Block) (one two three four : Block) (first second third fourth : ℕ)

@@ -164,7 +164,8 @@ fn list_of_part(
 fn valid_in(item: &Item, before: u64) -> Option<ValidGroup>
     requires limit { before ≤ 2 ^ 36 }
     requires place { place_of item.now < 2 ^ 37 }
-    ensures { IfSome result (λ group. (b : Signal) (symbols : List ℕ) (margin : ℕ)
+    ensures early { IfSome result (λ group. group.place < 2 ^ 63) }
+    ensures value { IfSome result (λ group. (b : Signal) (symbols : List ℕ) (margin : ℕ)
         → again_in b symbols margin before item.now ≡ InSoft (valid_group group)) }
 {
     let Item::Group(group) = item else {

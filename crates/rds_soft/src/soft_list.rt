@@ -1,6 +1,7 @@
 //! Items that were read again, in little room.
-ghost use Rattle.std.specs.Prelude.{◌≡◌, ◌<◌, ◌==◌, ◌++◌, ◌∷◌, ◌+◌, ℕ, List, [], IfSome, None, OnOk, length, slice_index_or};
-ghost use Rattle.rds_soft.specs.{SoftLists.item_of, SoftLists.valid_group, declared.soft_item.SoftItem.SoftItem as AnItem, declared.soft_item.SoftItem.TheVariants.Group as InSoft};
+ghost use Rattle.std.specs.Prelude.{◌≡◌, ◌<◌, ◌==◌, ◌++◌, ◌∷◌, ◌+◌, ◌^◌, ℕ, List, [], IfSome, None, OnOk, length, slice_index_or};
+ghost use Rattle.rds_soft.specs.{SoftLists.item_of, SoftLists.valid_group, declared.soft_item.SoftItem.SoftItem as AnItem, declared.soft_item.SoftItem.TheVariants.Group as InSoft, declared.soft_list.ValidGroup.ValidGroup as AGroup};
+ghost use Rattle.rds_soft.specs.declared.soft_list.Listed.TheVariants as AListed;
 
 use crate::soft_item::SoftItem;
 use std::alloc::{AllocError, Global};
@@ -23,19 +24,15 @@ pub enum Listed {
     Other(SoftItem),
 }
 
-/// An item as it is kept.
-#[derive(Clone, Copy, Debug, PartialEq, Eq)]
-enum Entry {
-    Valid(ValidGroup),
-    /// Its place among the others.
-    At(usize),
-}
+/// No group is at this place or at a later one: an entry there names an item by its number among the others.
+const NO_PLACE: u64 = 1 << 63;
 
-/// Items that were read again, in order. A valid group takes 24 bytes, and any other item 24 more than a [`SoftItem`]. Contracts see
+/// Items that were read again, in order. A valid group takes 16 bytes, and any other item 16 more than a [`SoftItem`]. Contracts see
 /// the items.
 #[derive(Drop)]
 pub struct SoftList {
-    entries: Vec<Entry>,
+    /// The valid groups, and in place of each other item one that names it.
+    entries: Vec<ValidGroup>,
     others: Vec<SoftItem>,
 }
 
@@ -80,29 +77,38 @@ impl SoftList {
     #[inline(always)]
     pub fn get(&self, i: usize) -> Listed
         requires { i < length self.now }
-        ensures { (other : AnItem) → item_of result ≡ slice_index_or self.now i other }
+        ensures value { (other : AnItem) → item_of result ≡ slice_index_or self.now i other }
+        ensures early { (group : AGroup) → result ≡ AListed.Valid group → group.place < 2 ^ 63 }
     {
-        match self.entries[i] {
-            Entry::Valid(group) => Listed::Valid(group),
-            Entry::At(place) => Listed::Other(self.others[place]),
+        let entry = self.entries[i];
+        if entry.place < NO_PLACE {
+            Listed::Valid(entry)
+        } else {
+            Listed::Other(self.others[(entry.place - NO_PLACE) as usize])
         }
     }
 
     /// Appends a group of four valid blocks. Refused memory, it leaves the list as it was.
     #[inline(always)]
     pub(crate) fn push_valid(&mut self, group: ValidGroup) -> Result<(), AllocError>
+        requires { group.place < 2 ^ 63 }
         ensures { OnOk result (self.new ≡ self.old ++ InSoft (valid_group group) ∷ []) }
     {
-        Ok(self.entries.push(Entry::Valid(group))?)
+        Ok(self.entries.push(group)?)
     }
 
     /// Appends any item.
     pub fn push(&mut self, item: SoftItem) -> Result<(), AllocError>
         ensures { OnOk result (self.new ≡ self.old ++ item ∷ []) }
     {
-        let place = self.others.len();
+        let place = NO_PLACE + self.others.len() as u64;
         self.others.push(item)?;
-        Ok(self.entries.push(Entry::At(place))?)
+        Ok(
+            self.entries.push(ValidGroup {
+                place,
+                words: [0; 4],
+            })?,
+        )
     }
 
     /// Appends the items of another list. Fails only if memory is refused.

@@ -1,12 +1,12 @@
-use Rattle.rds_soft.proofs.Names.{common_steps, arith, length, ◌≡◌, ◌++◌, ◌∷◌, ◌∙◌, ℕ, List, [], ap, ap₂, SoftItem}
-use Rattle.rds_soft.specs.{Inside.Lists.items_at, declared.soft_list.Entry.TheVariants.At}
+use Rattle.rds_soft.proofs.Names.{common_steps, arith, length, ◌≡◌, ◌++◌, ◌+◌, ◌^◌, ◌∷◌, ◌∙◌, ℕ, List, [], ap, ap₂, SoftItem}
+use Rattle.rds_soft.specs.{Inside.Lists.items_at}
 use Rattle.rds_soft.proofs.ListLemmas.{items_pushed}
 use Rattle.rds_soft.proofs.soft_list.SoftList.push.Goals as goal
 
 pub returns : goal.returns
 returns c =
     let entries = c.self.inside.entries.items in
-    let at : c.len-place.result ≡ length c.self.inside.others.items = grind (arith, common_steps) in
-    ap₂ items_at c.in_ok-push.ensures.items (c.in_ok-push-2.ensures.items ∙ ap (λ (place : ℕ). entries ++ At place ∷ []) at)
-    ∙ items_pushed c.self.inside.others.items c.args.item entries c.self.invariant
+    let at : 2 ^ 63 + c.len.result ≡ 2 ^ 63 + length c.self.inside.others.items = grind (arith, common_steps) in
+    ap₂ items_at c.in_ok-push.ensures.items c.in_ok-push-2.ensures.items
+    ∙ items_pushed c.self.inside.others.items c.args.item entries _ at c.self.invariant
     ∙ ap (λ (xs : List SoftItem). xs ++ c.args.item ∷ []) c.self.view_is
