@@ -10,4 +10,4 @@ comes_next before more whole count one rest begins are at =
 
 pub returns-clause-item : goal.returns-clause-item
 returns-clause-item c one rest begins =
-    c.get.ensures one ∙ comes_next c.args.list.now c.args.more.now _ c.len-count.result one rest begins c.in_ok-append.ensures c.len-count.ensures
+    c.get.ensures.value one ∙ comes_next c.args.list.now c.args.more.now _ c.len-count.result one rest begins c.in_ok-append.ensures c.len-count.ensures

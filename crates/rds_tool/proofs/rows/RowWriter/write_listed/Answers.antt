@@ -10,7 +10,7 @@ loop-at-preserved c =
     record {
       rows = c.push_listed.ensures.text
           ∙ row_next soft_row c.loop-at.self c.args.items.now c.args.from c.loop-at.at (item_of c.get.result) (LostLock 0) inv.order
-          (omega (arith, c.loop-at-test.true, c.requires.inside)) inv.rows (c.get.ensures (LostLock 0));
+          (omega (arith, c.loop-at-test.true, c.requires.inside)) inv.rows (c.get.ensures.value (LostLock 0));
       short = omega (arith, c.push_listed.ensures.short, inv.short, inv.order);
       order = omega (arith, inv.order);
       few = omega (arith, c.loop-at-test.true);
