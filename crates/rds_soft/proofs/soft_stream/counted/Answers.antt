@@ -1,4 +1,4 @@
-use Rattle.rds_soft.proofs.Names.{◌++◌, ◌+◌, ◌-◌, ◌*◌, ◌^◌, ◌<◌, ◌∷◌, ◌∙◌, ℕ, List, [], ap, ap₂, arith, length, subst, sym, take, take_all, AreAtMost, plus, soft_totals_of, SoftItem, InSoft}
+use Rattle.rds_soft.proofs.Names.{◌++◌, ◌+◌, ◌-◌, ◌*◌, ◌^◌, ◌<◌, ◌∷◌, ◌∙◌, ℕ, List, [], ap, ap₂, arith, length, subst, sym, take_all, AreAtMost, plus, soft_totals_of, SoftItem, InSoft}
 use Rattle.rds_soft.specs.{Inside.Totals.clean, SoftLists.item_of, SoftLists.valid_group, declared.soft_totals.SoftTotals.SoftTotals}
 use Rattle.rds_soft.proofs.TotalsLemmas.{next_item, one_clean, plus-turned, soft_totals_of-append}
 use Rattle.rds_soft.proofs.soft_stream.counted.Goals as goal
