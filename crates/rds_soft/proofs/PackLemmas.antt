@@ -45,13 +45,13 @@ sign_up n up = ap (λ (b : Bool). (if b then 1 else 0)) (lt-ltb 0 n up)
 pub sign_by_test : (x : ℕ) → x < 256 → cond {A = ℕ} (ltb ((x + 255) % 256) 127) 1 0 ≡ sign (cast_signed w8 x)
 sign_by_test x small = grind (arith, common_steps, ltb, lt-ltb, sign_up, to_z_pos, le-ltb, to_z-neg)
 
--- ---- words of bits, the first one highest
+-- ---- the bits of words, first bit highest
 
 -- the lowest m bits of a word
 low_bit : (x m k : ℕ) → k < m → bit_at (x % 2 ^ m) k ≡ bit_at x k
 low_bit x m k inside = sym (bit_at_cat_low (x / 2 ^ m) m (x % 2 ^ m) k inside) ∙ ap (λ (y : ℕ). bit_at y k) (shr_split x m)
 
--- two words of m bits in one
+-- two words of m bits each, joined
 pub joined_bit : (P : ℕ → ℕ) (a b m from : ℕ) → b < 2 ^ m → ((k : ℕ) → k < m → bit_at a (m - 1 - k) ≡ P (from + k))
     → ((k : ℕ) → k < m → bit_at b (m - 1 - k) ≡ P (from + m + k))
     → (k : ℕ) → k < m + m → bit_at (a * 2 ^ m + b) (m + m - 1 - k) ≡ P (from + k)
@@ -64,7 +64,7 @@ joined_bit P a b m from small first second k inside = elim (cases_lt k m) [
       ∙ ap (bit_at b) (omega (arith, low, inside)) ∙ second (k - m) (omega (arith, low, inside)) ∙ ap P (omega (arith, low))
 ]
 
--- the same of the lowest m bits of each
+-- the same for the lowest m bits of two words
 pub joined_low_bit : (P : ℕ → ℕ) (a b m from : ℕ) → ((k : ℕ) → k < m → bit_at a (m - 1 - k) ≡ P (from + k))
     → ((k : ℕ) → k < m → bit_at b (m - 1 - k) ≡ P (from + m + k))
     → (k : ℕ) → k < m + m → bit_at (a % 2 ^ m * 2 ^ m + b % 2 ^ m) (m + m - 1 - k) ≡ P (from + k)
@@ -73,7 +73,7 @@ joined_low_bit P a b m from first second =
     (λ k inside. low_bit a m (m - 1 - k) (omega (arith, inside)) ∙ first k inside)
     (λ k inside. low_bit b m (m - 1 - k) (omega (arith, inside)) ∙ second k inside)
 
--- a word of 64 bits without its first one, and with one more
+-- a 64-bit word without its first bit, followed by one more bit
 pub next_bit : (P : ℕ → ℕ) (x last : ℕ) → last < 2 → ((k : ℕ) → k < 64 → bit_at x (63 - k) ≡ P k) → last ≡ P 64
     → (k : ℕ) → k < 64 → bit_at (x % 2 ^ 63 * 2 ^ 1 + last) (63 - k) ≡ P (k + 1)
 next_bit P x last digit each is k inside =
@@ -95,7 +95,7 @@ of_bytes : (bytes : List ℕ) (P : ℕ → ℕ) → ((q r : ℕ) → q < length 
     → (i : ℕ) → i < 8 * length bytes → packed_bit bytes i ≡ P i
 of_bytes bytes P each i inside = each (i / 8) (i % 8) (omega arith) (omega arith) ∙ ap P (omega arith)
 
--- the eight bytes of a word
+-- the eight bytes of a 64-bit word
 byte_at : (x q : ℕ) → q < 8 → slice_index (to_be_bytes w64 x) q ≡ x / 2 ^ (8 * (7 - q)) % 2 ^ 8
 byte_at x =
     each_below (λ (q : ℕ). slice_index (to_be_bytes w64 x) q ≡ x / 2 ^ (8 * (7 - q)) % 2 ^ 8) 8

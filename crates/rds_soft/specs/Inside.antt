@@ -5,3 +5,4 @@ pub mod Nearer
 pub mod Packed
 pub mod Streams
 pub mod Lists
+pub mod Totals

@@ -54,6 +54,7 @@ fn bytes_between(symbols: &[u8; 65]) -> [u8; 8]
     let high = half_signs(symbols, 0);
     let low = half_signs(symbols, 32);
     let signs = high * 0x1_0000_0000 + low;
+    // The same, one symbol later.
     let next = signs % 0x8000_0000_0000_0000 * 2 + sign_of(symbols[64]);
     (signs ^ next).to_be_bytes()
 }

@@ -9,7 +9,7 @@ use crate::margin::Margin;
 use crate::near::{end_near, last_of, near_of, read_all_again, run_near};
 use crate::nearest::Search;
 use crate::soft_item::{SoftGroup, SoftItem};
-use crate::soft_list::SoftList;
+use crate::soft_list::{Listed, SoftList};
 use crate::soft_totals::SoftTotals;
 use rds_code::RdsError;
 use rds_live::laws::{ends_move, runs_move};
@@ -236,11 +236,16 @@ fn counted(totals: SoftTotals, items: &SoftList) -> SoftTotals
     ensures small { (most : ℕ) → AreAtMost most totals → AreAtMost (most + 2 ^ 10 * length items.now) result }
 {
     soft_totals_join();
-    let mut sum = totals;
+    let mut others = totals;
+    // Most items are groups of four valid blocks: the loop only counts them.
+    let mut valid = 0;
     for i in 0..items.len() {
-        sum = sum.plus(SoftTotals::of_listed(&items.get(i)));
+        match items.get(i) {
+            Listed::Valid(_) => valid += 1,
+            Listed::Other(item) => others = others.plus(SoftTotals::of_item(&item)),
+        }
     }
-    sum
+    others.plus(SoftTotals::of_clean(valid))
 }
 
 /// The end of a stream whose complete items have these totals.

@@ -1,11 +1,10 @@
 //! The totals of items that were read again.
-ghost use Rattle.std.specs.Prelude.{◌≡◌, ◌≤◌, ◌<◌, ◌∷◌, ◌+◌, ◌^◌, ℕ, []};
+ghost use Rattle.std.specs.Prelude.{◌≡◌, ◌≤◌, ◌<◌, ◌∷◌, ◌+◌, ◌*◌, ◌^◌, ℕ, []};
 ghost use Rattle.rds_soft.specs.SoftTotals.{bits_in as the_bits_in, flipped_in as the_flipped_in, is_known as the_is_known, lost_in as the_lost_in, valid_in as the_valid_in};
-ghost use Rattle.rds_soft.specs.SoftLists.{item_of};
+ghost use Rattle.rds_soft.specs.Inside.Totals.{clean};
 ghost use Rattle.rds_soft.specs.declared.soft_item.SoftItem.TheVariants as ASoftItem;
 
 use crate::soft_item::{SoftBlock, SoftGroup, SoftItem};
-use crate::soft_list::Listed;
 use crate::soft_reading::{SoftReading, mask_of};
 use rds_sync::Totals;
 
@@ -62,14 +61,20 @@ impl SoftTotals {
         }
     }
 
-    /// The totals of one item of a list.
-    pub(crate) fn of_listed(item: &Listed) -> SoftTotals
-        ensures value { result ≡ soft_totals_of (item_of item.now ∷ []) }
-        ensures small { AreAtMost (2 ^ 10) result }
+    /// The totals of `count` groups of four valid blocks.
+    pub(crate) fn of_clean(count: u64) -> SoftTotals
+        requires { count < 2 ^ 54 }
+        ensures value { result ≡ clean count }
+        ensures small { AreAtMost (2 ^ 10 * count) result }
     {
-        match item {
-            Listed::Valid(_) => SoftTotals::CLEAN,
-            Listed::Other(item) => SoftTotals::of_item(item),
+        SoftTotals {
+            totals: Totals {
+                valid: 4 * count,
+                groups: count,
+                complete: count,
+                ..Totals::NONE
+            },
+            flipped: [0; 6],
         }
     }
 
