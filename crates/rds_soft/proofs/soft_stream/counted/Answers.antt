@@ -39,7 +39,7 @@ loop-i-preserved c =
                 ap₂ (λ (t : SoftTotals) (n : ℕ). plus t (clean n)) w.others-is w.valid-is
                 ∙ sym (one_clean others valid group)
                 ∙ ap (λ (t : SoftTotals). plus t (soft_totals_of (item ∷ []))) (inv.value before is)
-                ∙ next_item before items i item inside (sym (ap item_of w.in-Valid.is) ∙ c.get.ensures item);
+                ∙ next_item before items i item inside (sym (ap item_of w.in-Valid.is) ∙ c.get.ensures.value item);
             small = λ most few.
                 subst (λ (t : SoftTotals). AreAtMost (most + 2 ^ 10 * (i + 1 - c.match-get.valid)) t) (sym w.others-is)
                 (subst (λ (n : ℕ). AreAtMost n others) (omega (arith, w.valid-is, inv.few)) (inv.small most few));
@@ -54,7 +54,7 @@ loop-i-preserved c =
                 ∙ ap (λ (t : SoftTotals). plus t (clean valid)) (w.plus-others.ensures.value ∙ ap (plus others) w.of_item.ensures.value)
                 ∙ plus-turned others one (clean valid)
                 ∙ ap (λ (t : SoftTotals). plus t one) (inv.value before is)
-                ∙ next_item before items i item inside (sym (ap item_of w.in-Other.is) ∙ c.get.ensures item);
+                ∙ next_item before items i item inside (sym (ap item_of w.in-Other.is) ∙ c.get.ensures.value item);
             small = λ most few.
                 subst (λ (t : SoftTotals). AreAtMost (most + 2 ^ 10 * (i + 1 - c.match-get.valid)) t) (sym w.others-is)
                 (subst (λ (n : ℕ). AreAtMost n w.plus-others.result) (omega (arith, w.valid-is, inv.few))
