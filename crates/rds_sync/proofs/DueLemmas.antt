@@ -63,7 +63,7 @@ module _ (b : Signal) (rules : RuleNumbers) (lock : Lock) (good : Bool) (good_is
       let place : lock.due ≡ next.due - 26 = omega (arith, follows.0) in
       record {
         nothing = items-inside b rules lock good good_is next after;
-        due = follows.0;
+        follows = follows;
         in_progress = read ∙ ap (λ (f : ℕ). blocks_at b rules f lock.number lock.due) (sym follows.2)
             ∙ ap₂ (λ (x p : ℕ). blocks_at b rules next.first x p) number place;
       }

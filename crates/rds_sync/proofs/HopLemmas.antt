@@ -1,6 +1,6 @@
 -- A part of a run over a tape is a hop: bits that give nothing lead to no state between groups but the one that they began in.
-use Rattle.rds_sync.proofs.Names.{◌≡◌, ◌≢◌, ℕ, zero, suc, ◌+◌, ◌-◌, ◌*◌, ◌<◌, ◌≤◌, ◌⊎◌, List, [], ◌++◌, Option, Some, None, refl, sym, ap, ap₂, ◌∙◌, subst, arith, inl, inr, cases_eq, Signal, Lock, State, Searching, Locked, Item, acquired, mark, IsHop, IsLawful, IsLawfulLock, IsBetweenGroups, ItemsMarkChanges, IsLossRule, RuleNumbers, run, step, items_at, common_steps, cases_lt, lt-ltb, le-ltb, Step, next_place, IsStretch, ◌^◌, length, append_assoc, append-nil, length-append, length_of, IsAtMost, IsCountStretch, CountOf, count_of, joined, IsTally, TallyOf, gone_on, StretchesAreSteps, HopsAreStretches}
-use Rattle.rds_sync.proofs.{RunLemmas.none-of, RunLemmas.lawful_step, RunLemmas.step-acquiring, RunLemmas.step-searching, RunLemmas.run-found, RunLemmas.run_searching, RunLemmas.run_places, RunLemmas.run_waiting, RunLemmas.run-further, TotalsLemmas.counted-together, RunIsReport.run_items_few}
+use Rattle.rds_sync.proofs.Names.{◌≡◌, ◌≢◌, ℕ, zero, suc, ◌+◌, ◌-◌, ◌*◌, ◌<◌, ◌≤◌, ◌⊎◌, List, [], ◌++◌, refl, sym, ap, ap₂, ◌∙◌, subst, arith, inl, inr, cases_eq, Signal, Lock, State, Searching, Locked, Item, IsHop, IsPaidHop, IsLawful, IsBetweenGroups, ItemsMarkChanges, IsLossRule, RuleNumbers, run, step, items_at, common_steps, cases_lt, lt-ltb, le-ltb, Step, next_place, IsStretch, ◌^◌, length, append_assoc, append-nil, length-append, length_of, IsAtMost, IsCountStretch, CountOf, count_of, joined, IsTally, TallyOf, gone_on, StretchesAreSteps, HopsAreStretches}
+use Rattle.rds_sync.proofs.{RunLemmas.none-of, RunLemmas.lawful_step, RunLemmas.run_places, RunLemmas.run_waiting, RunLemmas.run-further, TotalsLemmas.counted-together, RunIsReport.run_items_few}
 
 same_state : (s t : State) → (s ≡ t) ⊎ (s ≢ t)
 same_state Searching Searching = inl refl
@@ -43,44 +43,16 @@ module _ (changes : ItemsMarkChanges) (b : Signal) (rules : RuleNumbers) (some :
       let before = (none-of (run b rules s place (place + n - place)).1 _ parts).0 in
       between_same s place n lawful (ap (λ (k : ℕ). (run b rules s place k).1) (sym first) ∙ before) between
 
-  -- a lock
-  pub kept-hop : (lock : Lock) (place near to next : ℕ) (after : State) (now base : ℕ) → IsLawfulLock rules place lock → place < next → next ≤ to
-      → after ≡ (run b rules (Locked lock) place (next - place)).0 → (run b rules (Locked lock) place (next - 1 - place)).1 ≡ []
-      → ((now ≤ base) × (after ≡ Locked lock)) ⊎ ((now ≤ base + 4) × (lock.due + 26 ≤ mark next after)) → IsHop b rules (Locked lock) place near to next after (now - base)
-  kept-hop lock place near to next after now base lawful ahead within is none cost = record {
-    moved = (ahead, within);
-    state_is = is;
-    quiet = quiet_of (Locked lock) place next lawful none;
-    paid = elim cost [
-      | inl still ↦ inl (omega (arith, still.0), still.1)
-      | inr some ↦ inr (omega (arith, some.0), some.1)
-    ];
-  }
-
-module _ (b : Signal) (rules : RuleNumbers) where
-  search_mark : (i next : ℕ) → next ≡ i + 1 → mark next (step b rules i Searching) ≡ next + 25
-  search_mark i next n = at_case (acquired b rules i) refl where
-    at_case : (o : Option ℕ) → acquired b rules i ≡ o → mark next (step b rules i Searching) ≡ next + 25
-    at_case None e = ap (λ (s : State). mark next s) (step-searching b rules i e)
-    at_case (Some x) e = ap (λ (s : State). mark next s) (step-acquiring b rules i x e) ∙ omega (arith, n)
-
-  -- a search
-  pub sought-hop : (place near to next : ℕ) (after : State) (now base : ℕ) → place < next → next ≤ near → near ≤ to → after ≡ (run b rules Searching place (next - place)).0
-      → ((i : ℕ) → place ≤ i → i + 1 < next → acquired b rules i ≡ None) → now ≤ base + (rules.reach + 1) * (next - place)
-      → IsHop b rules Searching place near to next after (now - base)
-  sought-hop place near to next after now base ahead within inside is none few = record {
-    moved = (ahead, omega (arith, within, inside));
-    state_is = is;
-    quiet = λ n h between. ap (λ (r : State × List Item). r.0) (run_searching b rules place n (λ i low high. none i low (omega (arith, high, h))));
-    paid = (within, omega (arith, few), let m = marked in omega (arith, m, ahead));
-  } where
-    marked : mark next after ≡ next + 25
-    marked =
-        let bits : next - place ≡ next - 1 + 1 - place = omega (arith, ahead) in
-        ap (λ (s : State). mark next s) is
-        ∙ ap (λ (n : ℕ). mark next (run b rules Searching place n).0) bits
-        ∙ ap (λ (r : State × List Item). mark next r.0) (run-found b rules place (next - 1) (omega (arith, ahead)) (λ j low high. none j low (omega (arith, high))))
-        ∙ search_mark (next - 1) next (omega (arith, ahead))
+  pub hop-is : (s t : State) (place near to next : ℕ) (after : State) (reads : ℕ) → s ≡ t → IsLawful rules place s → place < next → next ≤ to
+      → after ≡ (run b rules t place (next - place)).0 → (run b rules t place (next - 1 - place)).1 ≡ [] → IsPaidHop b rules t place near next after reads
+      → IsHop b rules s place near to next after reads
+  hop-is s t place near to next after reads same lawful ahead within is none paid =
+      subst (λ (u : State). IsHop b rules u place near to next after reads) (sym same) (record {
+        moved = (ahead, within);
+        state_is = is;
+        quiet = quiet_of t place next (subst (λ (u : State). IsLawful rules place u) same lawful) none;
+        paid = paid;
+      })
 
 -- A stretch of a run, step by step.
 module _ (b : Signal) (rules : RuleNumbers) (s : State) (place to : ℕ) (reached : Step) (is : IsStretch b rules s place to reached) where

@@ -10,5 +10,5 @@ pub use Rattle.rds_sync.specs.Groups.{are_complete, block_at, blocks_at, differ,
 pub use Rattle.rds_sync.specs.Inside.Counts.{HasCountedOn, IsCountStretch, AreLanes, CountOf, acquired_count, added, count_of, counted, group_count, in_lanes, joined, loss_count, IsTally}
 pub use Rattle.rds_sync.specs.Inside.Outcomes.{Outcome, bad_over, bits_inverted, corrected, good_at, group_totals, has_info, has_span, lost, missing, outcome_of, valid, was_lost, was_valid, IsLostAtOnce, first_behind, wanted_behind, word_of_two, AreShort, IsShort, blocks_in, nibble, outcome_at, word_of_blocks, IsKeptOver}
 pub use Rattle.rds_sync.specs.Sent.{AreCorrectable, AreHeard, AreHeardDamaged, AreWords, DamageTellsTotals, DamagedBitsAreDecoded, DamagedBitsTellTotals, DamagedGroupsAreHeard, DamagedGroupsAreListed, EncodedGroupsAreHeard, EncodedGroupsAreListed, GroupIsHeard, GroupsAreCorrected, IsCorrectable, IsHeardFrom, KeepLock, LockedGroupsAreListed, PackedGroupsAreSent, SentGroup, SentGroupsAreListed, SoundSignalIsDecoded, bad_after_blocks, bits_sent, bits_with_damage, block_sent, four_damages, group_bits, group_sent, items_damaged, items_sent, masks_read, packed_group, packed_groups, totals_damaged}
-pub use Rattle.rds_sync.specs.{Acquiring.has_partner, Acquiring.is_in_step, Acquiring.is_numbered, Acquiring.with_partner, Advance.items_in as items_there, Advance.next_place, Convergence.IsConverged, Convergence.IsLastFour, Convergence.IsRival, Convergence.IsSound, Convergence.RunsConverge, Convergence.SoundRangesHaveFours, Convergence.sound_blocks, Counting.IsAtMost, Counting.IsRest, Counting.plus, Decoding.DecoderOf, Decoding.GivesNext, Decoding.ItemsOf, Decoding.listed, Hop.IsHop, Hop.mark, Inside.Locks.IsAfter, Inside.Locks.IsKept, Inside.Locks.state_of, Inside.Locks.IsFollowed, Inside.Locks.IsInProgress, Inside.Locks.items_of_due, Inside.Spans.AreBehind, Inside.Spans.AreSpans, Inside.Spans.IsAt, Inside.Spans.IsFound, Inside.Spans.IsInFirst, Inside.Spans.IsPast, Inside.Spans.IsSpan, Inside.Spans.IsStart, Inside.Spans.items_in, Inside.Spans.items_of, Inside.WholeGroups.HasGiven, Inside.WholeGroups.HasPushed, Inside.WholeGroups.IsWhole, Inside.WholeGroups.outcomes_at, Lawful.HaveRoom, Lawful.IsBetweenGroups, Lawful.IsLawful, Lawful.IsLawfulLock, Laws.HopsAreStretches, Laws.ItemsMarkChanges, Laws.MasksTellBlocks, Laws.StretchesAreSteps, Loss.IsLawfulBad, Loss.IsLossRule, Loss.are_too_many, Loss.bad_after, Loss.bad_at, Loss.last_blocks, Loss.loses, Report.block_count, Report.end, Report.first_lock, Report.first_of_group, Report.group_closed_by, Report.is_good, Report.items_from, Report.items_of_lock, Report.loses_at, Report.loss_items, Report.read_blocks, Report.report_items, Rules.RuleNumbers, Step.after_bit, Step.completed_group, Step.history_after_block, Step.items_at, Step.items_of_end, Step.lock_after, Step.lock_of, Step.run, Step.step, Stretch.IsStretch, Tally.TallyOf, Tally.gone_on, Tally.tally_at, Totals.bits_corrected, Totals.count_blocks, Totals.is_acquired, Totals.is_complete, Totals.is_corrected_by, Totals.is_group, Totals.is_lost, Totals.is_sync_loss, Totals.is_valid, Totals.sum_blocks, Totals.totals_of, declared.due.Due.Due, declared.due.Due.TheVariants.Closed, declared.due.Due.TheVariants.Inside, declared.due.Due.TheVariants.Lost as LockLost, declared.item.Block.Block, declared.item.Block.TheVariants.Missing, declared.item.Block.TheVariants.Read, declared.item.Group.Group as GroupOf, declared.item.Group.Group as GroupRecord, declared.item.Item.Item, declared.item.Item.TheVariants.Acquired, declared.item.Item.TheVariants.Group, declared.item.Item.TheVariants.Group as GroupItem, declared.item.Item.TheVariants.LostLock, declared.item.Version.Version, declared.item.Version.TheVariants.A as VA, declared.item.Version.TheVariants.B as VB, declared.item.Version.TheVariants.Unknown, declared.lock.Lock.Lock, declared.loss.Loss.Loss, declared.loss.Loss.TheVariants.Run, declared.loss.Loss.TheVariants.Share, declared.span.Span.Span, declared.span.Span.TheVariants.End, declared.span.Span.TheVariants.Run as RunSpan, declared.span.Start.Start, declared.state.State.State, declared.state.State.TheVariants.Locked, declared.state.State.TheVariants.Searching, declared.step.Step.Step, declared.totals.Totals.Totals}
+pub use Rattle.rds_sync.specs.{Acquiring.has_partner, Acquiring.is_in_step, Acquiring.is_numbered, Acquiring.with_partner, Advance.items_in as items_there, Advance.next_place, Convergence.IsConverged, Convergence.IsLastFour, Convergence.IsRival, Convergence.IsSound, Convergence.RunsConverge, Convergence.SoundRangesHaveFours, Convergence.sound_blocks, Counting.IsAtMost, Counting.IsRest, Counting.plus, Decoding.DecoderOf, Decoding.GivesNext, Decoding.ItemsOf, Decoding.listed, Hop.IsHop, Hop.IsPaidHop, Inside.Locks.IsAfter, Inside.Locks.IsKept, Inside.Locks.state_of, Inside.Locks.IsFollowed, Inside.Locks.IsInProgress, Inside.Locks.items_of_due, Inside.Locks.place_by, Inside.Locks.slots_of, Inside.Locks.step_by, Inside.Searches.FindsFirst, Inside.Searches.NoneAcquires, Inside.Spans.AreBehind, Inside.Spans.AreSpans, Inside.Spans.IsAt, Inside.Spans.IsFound, Inside.Spans.IsInFirst, Inside.Spans.IsPast, Inside.Spans.IsSpan, Inside.Spans.IsStart, Inside.Spans.items_in, Inside.Spans.items_of, Inside.WholeGroups.HasGiven, Inside.WholeGroups.HasPushed, Inside.WholeGroups.IsWhole, Inside.WholeGroups.outcomes_at, Lawful.HaveRoom, Lawful.IsBetweenGroups, Lawful.IsLawful, Lawful.IsLawfulLock, Laws.HopsAreStretches, Laws.ItemsMarkChanges, Laws.MasksTellBlocks, Laws.StretchesAreSteps, Loss.IsLawfulBad, Loss.IsLossRule, Loss.are_too_many, Loss.bad_after, Loss.bad_at, Loss.last_blocks, Loss.loses, Report.block_count, Report.end, Report.first_lock, Report.first_of_group, Report.group_closed_by, Report.is_good, Report.items_from, Report.items_of_lock, Report.loses_at, Report.loss_items, Report.read_blocks, Report.report_items, Rules.RuleNumbers, Step.after_bit, Step.completed_group, Step.history_after_block, Step.items_at, Step.items_of_end, Step.lock_after, Step.lock_of, Step.run, Step.step, Stretch.IsStretch, Tally.TallyOf, Tally.gone_on, Tally.tally_at, Totals.bits_corrected, Totals.count_blocks, Totals.is_acquired, Totals.is_complete, Totals.is_corrected_by, Totals.is_group, Totals.is_lost, Totals.is_sync_loss, Totals.is_valid, Totals.sum_blocks, Totals.totals_of, declared.due.Due.Due, declared.due.Due.TheVariants.Closed, declared.due.Due.TheVariants.Inside, declared.due.Due.TheVariants.Lost as LockLost, declared.item.Block.Block, declared.item.Block.TheVariants.Missing, declared.item.Block.TheVariants.Read, declared.item.Group.Group as GroupOf, declared.item.Group.Group as GroupRecord, declared.item.Item.Item, declared.item.Item.TheVariants.Acquired, declared.item.Item.TheVariants.Group, declared.item.Item.TheVariants.Group as GroupItem, declared.item.Item.TheVariants.LostLock, declared.item.Version.Version, declared.item.Version.TheVariants.A as VA, declared.item.Version.TheVariants.B as VB, declared.item.Version.TheVariants.Unknown, declared.lock.Lock.Lock, declared.loss.Loss.Loss, declared.loss.Loss.TheVariants.Run, declared.loss.Loss.TheVariants.Share, declared.span.Span.Span, declared.span.Span.TheVariants.End, declared.span.Span.TheVariants.Run as RunSpan, declared.span.Start.Start, declared.state.State.State, declared.state.State.TheVariants.Locked, declared.state.State.TheVariants.Searching, declared.step.Step.Step, declared.totals.Totals.Totals}
 unfoldable pub use Rattle.rds_sync.specs.{Acquiring.acquired, Acquiring.has_number, Groups.group, Sent.binary}

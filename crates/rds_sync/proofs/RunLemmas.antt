@@ -1,5 +1,5 @@
 -- Runs: over ranges in a row, while a block is waited for, up to the next block, and through a search.
-use Rattle.rds_sync.proofs.Names.{common_steps, ◌≡◌, ◌≢◌, ℕ, zero, suc, ◌+◌, ◌-◌, ◌<◌, ◌≤◌, List, [], ◌∷◌, ◌++◌, true, false, Some, None, refl, sym, ap, ap₂, ◌∙◌, arith, append_assoc, append-nil, add-zero, zero-add, suc-add, ne_eqb, eq-eqb, Signal, Lock, State, Searching, Locked, Item, Acquired, Group, LostLock, RuleNumbers, are_too_many, acquired, group, run, step, after_bit, items_at, history_after_block, completed_group, lock_after, ◌*◌, Bool, Option, subst, inl, inr, cases_eq, cases_lt, cases_Bool, lt-ltb, list_any, range_with_len, Offset, number, offset_at, IsLossRule, IsLawfulBad, has_number, has_partner, is_numbered, with_partner, IsLawful, IsLawfulLock, lock_of}
+use Rattle.rds_sync.proofs.Names.{common_steps, ◌≡◌, ◌≢◌, ℕ, zero, suc, ◌+◌, ◌-◌, ◌<◌, ◌≤◌, List, [], ◌∷◌, ◌++◌, true, false, Some, None, refl, sym, ap, ap₂, ◌∙◌, arith, append_assoc, append-nil, add-zero, zero-add, suc-add, ne_eqb, eq-eqb, Signal, Lock, State, Searching, Locked, Item, Acquired, Group, LostLock, RuleNumbers, are_too_many, acquired, group, run, step, after_bit, items_at, history_after_block, completed_group, lock_after, ◌*◌, Bool, Option, subst, inl, inr, cases_eq, cases_lt, cases_Bool, lt-ltb, list_any, range_with_len, Offset, number, offset_at, IsLossRule, IsLawfulBad, has_number, has_partner, is_numbered, with_partner, IsLawful, IsLawfulLock, lock_of, FindsFirst, NoneAcquires, WindowsLeft}
 use Rattle.rds_sync.proofs.LossLemmas.{lawful_none}
 
 module _ (b : Signal) (rules : RuleNumbers) where
@@ -229,6 +229,43 @@ module _ (b : Signal) (rules : RuleNumbers) where
 
   pub lawful_run_places : IsLossRule rules.loss → (s : State) (from to : ℕ) → from ≤ to → IsLawful rules from s → IsLawful rules to (run b rules s from (to - from)).0
   lawful_run_places loss s from to order lawful = grind (arith, common_steps, run, lawful-run)
+
+-- a search up to and including the first place that acquires
+module _ (b : Signal) (rules : RuleNumbers) (here x : ℕ) (e : acquired b rules here ≡ Some x) where
+  pub run-acquired : (place : ℕ) → place ≤ here → NoneAcquires b rules place here → run b rules Searching place (here + 1 - place) ≡ (Locked (lock_after here x 0 x), items_at b rules here Searching)
+  run-acquired place order none = run-found b rules place here order none ∙ ap (λ (s : State). (s, items_at b rules here Searching)) (step-acquiring b rules here x e)
+
+  -- nothing is given before it
+  pub quiet-acquired : (place : ℕ) → place ≤ here → NoneAcquires b rules place here → (run b rules Searching place (here + 1 - 1 - place)).1 ≡ []
+  quiet-acquired place order none = let last : here + 1 - 1 ≡ here = omega arith in rw last (ap (λ (r : State × List Item). r.1) (run-unfound b rules place here order none))
+
+  pub lawful-acquired : IsLossRule rules.loss → IsLawful rules (here + 1) (Locked (lock_after here x 0 x))
+  lawful-acquired loss = subst (λ (s : State). IsLawful rules (here + 1) s) (step-acquiring b rules here x e) (lawful_step b rules loss here Searching tt)
+
+-- the same, of windows that are left
+pub record HasFound (b : Signal) (rules : RuleNumbers) (place to here x : ℕ) (left : WindowsLeft) : Type 0 where
+  pub from_on : place ≤ here
+  pub before : here < to
+  pub late : 51 ≤ here
+  pub none : NoneAcquires b rules place here
+  pub there : acquired b rules here ≡ Some x
+  pub run_is : run b rules Searching place (here + 1 - place) ≡ (Locked (lock_after here x 0 x), items_at b rules here Searching)
+  pub left_is : left ≡ record { signal = b; next = here + 1; end = to }
+
+pub found-first : (b : Signal) (rules : RuleNumbers) (place to here x : ℕ) (o : Offset) (old left : WindowsLeft) → x ≡ number o → old ≡ record { signal = b; next = place; end = to }
+    → FindsFirst rules old (Some (here, o)) left → HasFound b rules place to here x left
+found-first b rules place to here x o old left number_is is first =
+    let found = subst (λ (w : WindowsLeft). FindsFirst rules w (Some (here, o)) left) is first in
+    let there : acquired b rules here ≡ Some x = found.3 ∙ ap (λ (n : ℕ). Some n) (sym number_is) in
+    record {
+      from_on = found.0;
+      before = found.1;
+      late = acquired_place b rules here x there;
+      none = found.2;
+      there = there;
+      run_is = run-acquired b rules here x there place found.0 found.2;
+      left_is = found.4;
+    }
 
 -- a state that is a lawful lock
 pub lawful-lock : (rules : RuleNumbers) (s : State) (place : ℕ) (lock : Lock) → s ≡ Locked lock → IsLawful rules place s → IsLawfulLock rules place lock

@@ -2,5 +2,6 @@
 pub mod Counts
 pub mod Locks
 pub mod Outcomes
+pub mod Searches
 pub mod Spans
 pub mod WholeGroups

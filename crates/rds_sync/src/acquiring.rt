@@ -1,17 +1,17 @@
 //! How sync is acquired, and the items of an acquisition.
 
-ghost use Rattle.std.specs.Prelude.{◌≡◌, ◌≤◌, ◌<◌, ◌+◌, ◌-◌, ◌*◌, ◌%◌, ◌^◌, ◌==◌, ◌∷◌, ℕ, List, length, IfSome, Option, None, Some, false, option_map};
+ghost use Rattle.std.specs.Prelude.{◌≡◌, ◌≤◌, ◌<◌, ◌+◌, ◌-◌, ◌*◌, ◌%◌, ◌^◌, ◌==◌, ◌∷◌, IfSome, Option, None, Some, false, option_map};
 ghost use Rattle.std.specs.List.{list_any, range_with_len};
 ghost use Rattle.rds_code.specs.declared.offset.Offset.{Offset};
 ghost use Rattle.rds_stream.specs.Recording.{Signal, length_of, heard, offset_at};
-ghost use Rattle.rds_sync.specs.{Acquiring.acquired, Acquiring.has_partner, Acquiring.is_in_step, Advance.items_in, Groups.group, Step.items_at, Step.lock_after, Step.completed_group, declared.item.Item.TheVariants.Acquired};
+ghost use Rattle.rds_sync.specs.{Acquiring.acquired, Acquiring.has_partner, Acquiring.is_in_step, Advance.items_in, Groups.group, Inside.Searches.FindsFirst, Step.lock_after, Step.completed_group, declared.item.Item.TheVariants.Acquired};
 
 use crate::item::{Block, Group, Item};
 use crate::lock::{BLOCK_PLACES, Lock};
 use crate::loss::NONE_BAD;
 use crate::rules::Rules;
 use rds_code::{BlockNumber, Offset, Wanted};
-use rds_stream::{FIRST_WINDOW, Recording, Tape, offset_heard};
+use rds_stream::{FIRST_WINDOW, Recording, Tape, ValidWindows, offset_heard};
 
 /// A block that acquires: the place at which it ends, its number, and the window heard there.
 #[derive(Clone, Copy)]
@@ -155,14 +155,30 @@ fn offset_at<T: Tape>(tape: &mut T, place: u64) -> Option<Offset>
     }
 }
 
-/// Whether a block of this number at a place of a recording has a partner within reach.
-#[tactic(auto, using(crate::proofs::Lemmas::partners))]
-pub(crate) fn has_partner_in(
+/// The next valid window that acquires, with its place and its offset.
+#[inline(always)]
+pub(crate) fn next_acquiring(
+    windows: &mut ValidWindows<'_>,
     rec: &Recording,
     rules: &Rules,
-    place: u64,
-    number: BlockNumber,
-) -> bool
+) -> Option<(u64, Offset)>
+    requires source { windows.old.signal ≡ rec.now }
+    requires end { windows.old.end ≤ length_of rec.now }
+    ensures { FindsFirst rules.now windows.old result windows.new }
+{
+    while let Some((here, offset)) = windows.next() {
+        // A window is valid by chance at one place in two hundred: so its partners are looked up in
+        // the recording, and the search keeps none of the windows after it.
+        if has_partner_in(rec, rules, here, offset.number()) {
+            return Some((here, offset));
+        }
+    }
+    None
+}
+
+/// Whether a block of this number at a place of a recording has a partner within reach.
+#[tactic(auto, using(crate::proofs::Lemmas::partners))]
+fn has_partner_in(rec: &Recording, rules: &Rules, place: u64, number: BlockNumber) -> bool
     requires { place < length_of rec.now }
     ensures { result ≡ list_any (has_partner rec.now place number) (range_with_len 1 rules.now.reach) }
 {

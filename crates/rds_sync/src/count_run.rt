@@ -1,10 +1,10 @@
 //! A run that counts its items, and makes none of them.
 
-ghost use Rattle.std.specs.Prelude.{◌≡◌, ◌≤◌, ◌<◌, ◌-◌, ◌^◌, Some};
+ghost use Rattle.std.specs.Prelude.{◌≡◌, ◌≤◌, ◌<◌, ◌-◌, Some};
 ghost use Rattle.rds_stream.specs.Recording.{Signal, length_of};
 ghost use Rattle.rds_sync.specs.{Acquiring.acquired, Inside.Counts.IsCountStretch, Inside.Counts.added, Lawful.IsLawful, Lawful.IsLawfulLock, Rules.RuleNumbers, Step.items_at, declared.state.State.TheVariants.Locked, declared.state.State.TheVariants.Searching};
 
-use crate::acquiring::has_partner_in;
+use crate::acquiring::next_acquiring;
 use crate::counts::Counts;
 use crate::lock::{BLOCK_PLACES, Lock};
 use crate::loss::NONE_BAD;
@@ -64,22 +64,20 @@ fn search_on(
     prove!(to <= rec.len());
     prove!(1 <= rules.reach());
     let mut windows = ValidWindows::new(rec, place, to);
-    while let Some((here, offset)) = windows.next() {
+    while let Some((here, offset)) = next_acquiring(&mut windows, rec, rules) {
         let number = offset.number();
-        if has_partner_in(rec, rules, here, number) {
-            add_found(counts, here, number);
-            let Some(word) = word_if_lost(reader, rules, here, number, to) else {
-                let number = number.get();
-                let lock = Lock::after_block(here, number, NONE_BAD, number);
-                return (here + 1, State::Locked(lock));
-            };
-            counts.add_group(word);
-            counts.add_loss();
-            if counts.items() >= most {
-                return (here + PASSED, State::Searching);
-            }
-            windows.pass(here + PASSED);
+        add_found(counts, here, number);
+        let Some(word) = word_if_lost(reader, rules, here, number, to) else {
+            let number = number.get();
+            let lock = Lock::after_block(here, number, NONE_BAD, number);
+            return (here + 1, State::Locked(lock));
+        };
+        counts.add_group(word);
+        counts.add_loss();
+        if counts.items() >= most {
+            return (here + PASSED, State::Searching);
         }
+        windows.pass(here + PASSED);
     }
     (to, State::Searching)
 }

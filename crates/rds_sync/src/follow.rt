@@ -3,9 +3,9 @@
 //! A good block costs one window, one remainder and one comparison: it is read once, when it is
 //! due, and kept until its group closes. Nothing is read in between.
 
-ghost use Rattle.std.specs.Prelude.{◌≡◌, ◌≤◌, ◌<◌, ◌+◌, ◌-◌, ◌*◌, ◌^◌, List};
+ghost use Rattle.std.specs.Prelude.{◌≡◌, ◌≤◌, ◌<◌, ◌+◌, ◌-◌, ◌*◌, ◌^◌};
 ghost use Rattle.rds_stream.specs.Recording.{length_of};
-ghost use Rattle.rds_sync.specs.{Acquiring.has_number, Advance.items_in, Groups.blocks_at, Groups.group, Groups.group_of, Lawful.HaveRoom, Inside.Locks.state_of, Inside.Locks.IsFollowed, Inside.Locks.IsInProgress, Inside.Locks.IsReadable, Inside.Locks.items_of_due, Rules.RuleNumbers, Step.step, Step.items_at, declared.state.State.TheVariants.Locked};
+ghost use Rattle.rds_sync.specs.{Acquiring.has_number, Groups.blocks_at, Groups.group, Groups.group_of, Hop.IsPaidHop, Lawful.HaveRoom, Lawful.IsLawfulLock, Stretch.IsStretch, Inside.Locks.step_by, Inside.Locks.state_of, Inside.Locks.IsFollowed, Inside.Locks.IsInProgress, Inside.Locks.IsReadable, Inside.Locks.items_of_due, Step.step, Step.items_at, declared.state.State.TheVariants.Locked};
 
 use crate::due::Due;
 use crate::item::{Block, Group, Item};
@@ -132,19 +132,54 @@ pub(crate) fn follow<T: Tape>(
     lock.after(rules.loss(), good)
 }
 
-/// The step of a lock whose group had these blocks, by what the last of them did to it.
-pub(crate) fn step_of(lock: Lock, blocks: [Block; 4], due: Due) -> Step
+/// Follows a lock up to and including the block that closes its group, or up to `to`: the lock in which that block was due,
+/// the blocks of its group and its effect. If none before `to` closes the group, the effect is that it continues.
+pub(crate) fn follow_group<T: Tape>(
+    tape: &mut T,
+    rules: &Rules,
+    lock: Lock,
+    place: u64,
+    to: u64,
+) -> (Lock, [Block; 4], Due)
+    requires lawful { IsLawfulLock rules.now place lock }
+    requires ahead { place < to }
+    requires within { to ≤ length_of (T.signal tape.old) }
+    requires counted { T.reads_made tape.old + 16 ≤ 2 ^ 63 }
+    ensures reached { IsStretch (T.signal tape.old) rules.now (Locked lock) place to
+        (step_by to result.0 result.1 result.2) }
+    ensures last { IsReadable (T.signal tape.old) rules.now result.0 }
+    ensures cost { IsPaidHop (T.signal tape.old) rules.now (Locked lock) place to
+        (step_by to result.0 result.1 result.2).place (step_by to result.0 result.1 result.2).state
+        (T.reads_made tape.new - T.reads_made tape.old) }
+    ensures same { T.signal tape.new ≡ T.signal tape.old }
+{
+    prove!(1 <= rules.reach());
+    prove!(to <= tape.len());
+    if to <= lock.due {
+        return (lock, NO_BLOCKS, Due::Inside(lock));
+    }
+    let mut blocks = blocks_before(tape, rules, lock);
+    let mut now = lock;
+    while now.due < to {
+        match follow(tape, rules, now, &mut blocks) {
+            Due::Inside(next) => now = next,
+            due => return (now, blocks, due),
+        }
+    }
+    (now, blocks, Due::Inside(now))
+}
+
+/// The step towards `to` by a block that was due in this lock, whose group had these blocks.
+pub(crate) fn step_of(lock: Lock, blocks: [Block; 4], due: Due, to: u64) -> Step
     requires order { lock.first ≤ lock.number }
     requires start { HaveRoom lock.first lock.number lock.due }
     requires near { lock.due < 2 ^ 60 }
-    ensures place { result.place ≡ lock.due + 1 }
-    ensures state { result.state ≡ state_of due }
-    ensures items { items_in result.items ≡ items_of_due lock blocks due }
+    ensures { result ≡ step_by to lock blocks due }
 {
     let place = lock.due + 1;
     match due {
         Due::Inside(next) => Step {
-            place,
+            place: to,
             state: State::Locked(next),
             items: [None, None],
         },

@@ -5,7 +5,7 @@
 //! a [`Tally`](crate::Tally) counts its items and makes none. The law
 //! [`steps_agree`](crate::laws::steps_agree) says that they are one run.
 
-ghost use Rattle.std.specs.Prelude.{◌≡◌, ◌≤◌, ◌<◌, ◌+◌, ◌-◌, ◌*◌, ◌^◌, length};
+ghost use Rattle.std.specs.Prelude.{◌≡◌, ◌≤◌, ◌<◌, ◌+◌, ◌-◌, ◌^◌};
 ghost use Rattle.rds_stream.specs.Recording.{length_of};
 ghost use Rattle.rds_sync.specs.{Advance.next_place, Advance.reads_most, Advance.items_in, Advance.group_item, Lawful.IsLawful, Lawful.IsLawfulLock, Step.step, Step.items_at, Step.run, Step.items_of_end};
 
@@ -113,5 +113,5 @@ fn read_due<T: Tape>(tape: &mut T, rules: &Rules, lock: Lock) -> Step
 {
     let mut blocks = blocks_before(tape, rules, lock);
     let due = follow(tape, rules, lock, &mut blocks);
-    step_of(lock, blocks, due)
+    step_of(lock, blocks, due, lock.due + 1)
 }

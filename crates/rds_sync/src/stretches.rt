@@ -5,10 +5,8 @@ ghost use Rattle.std.specs.Prelude.{◌≡◌, ◌≤◌, ◌<◌};
 ghost use Rattle.rds_stream.specs.Recording.{length_of};
 ghost use Rattle.rds_sync.specs.{Lawful.IsLawful, Lawful.IsLawfulLock, Stretch.IsStretch, declared.state.State.TheVariants.Locked, declared.state.State.TheVariants.Searching};
 
-use crate::acquiring::{Acquisition, has_partner_in};
-use crate::due::Due;
-use crate::follow::{blocks_before, closed_group, follow};
-use crate::item::Item;
+use crate::acquiring::{Acquisition, next_acquiring};
+use crate::follow::{follow_group, step_of};
 use crate::lock::Lock;
 use crate::rules::Rules;
 use crate::state::State;
@@ -49,27 +47,25 @@ fn search(reader: &mut Reader<'_>, rules: &Rules, place: u64, to: u64) -> Step
     let rec = reader.recording();
     prove!(to <= rec.len());
     prove!(1 <= rules.reach());
-    for (here, offset) in ValidWindows::new(rec, place, to) {
-        // A window is valid by chance at one place in two hundred: so its partners are looked up in
-        // the recording, and the search keeps none of the windows after it.
-        let number = offset.number();
-        if has_partner_in(rec, rules, here, number) {
+    let mut windows = ValidWindows::new(rec, place, to);
+    match next_acquiring(&mut windows, rec, rules) {
+        None => Step {
+            place: to,
+            state: State::Searching,
+            items: [None, None],
+        },
+        Some((here, offset)) => {
             let found = Acquisition {
                 place: here,
-                number,
+                number: offset.number(),
                 heard: reader.window(here),
             };
-            return Step {
+            Step {
                 place: here + 1,
                 state: State::Locked(found.lock()),
                 items: found.items(rules),
-            };
+            }
         }
-    }
-    Step {
-        place: to,
-        state: State::Searching,
-        items: [None, None],
     }
 }
 
@@ -82,37 +78,10 @@ fn keep_lock(reader: &mut Reader<'_>, rules: &Rules, lock: Lock, place: u64, to:
     ensures reached { IsStretch reader.old rules.now (Locked lock) place to result }
     ensures same { reader.new ≡ reader.old }
 {
-    prove!(1 <= rules.reach());
+    prove!(to <= reader.recording().len());
     if let Some(step) = whole_group(reader, rules, lock, place, to) {
         return step;
     }
-    let mut blocks = blocks_before(reader, rules, lock);
-    let mut now = lock;
-    while now.due < to {
-        match follow(reader, rules, now, &mut blocks) {
-            Due::Inside(next) => now = next,
-            Due::Closed(next) => {
-                return Step {
-                    place: now.due + 1,
-                    state: State::Locked(next),
-                    items: [Some(Item::Group(closed_group(now, blocks))), None],
-                };
-            }
-            Due::Lost => {
-                return Step {
-                    place: now.due + 1,
-                    state: State::Searching,
-                    items: [
-                        Some(Item::Group(closed_group(now, blocks))),
-                        Some(Item::LostLock { place: now.due }),
-                    ],
-                };
-            }
-        }
-    }
-    Step {
-        place: to,
-        state: State::Locked(now),
-        items: [None, None],
-    }
+    let (last, blocks, due) = follow_group(reader, rules, lock, place, to);
+    step_of(last, blocks, due, to)
 }

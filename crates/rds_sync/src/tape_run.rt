@@ -1,14 +1,14 @@
 //! Parts of a run over a tape that counts its items: a search, or a group of a lock.
 
-ghost use Rattle.std.specs.Prelude.{◌≡◌, ◌≤◌, ◌<◌, ◌+◌, ◌-◌, ◌*◌, ◌^◌, ◌⊎◌, [], ℕ, None};
+ghost use Rattle.std.specs.Prelude.{◌≡◌, ◌≤◌, ◌<◌, ◌+◌, ◌-◌, ◌^◌, []};
 ghost use Rattle.rds_stream.specs.Recording.{length_of};
-ghost use Rattle.rds_sync.specs.{Acquiring.acquired, Hop.IsHop, Hop.mark, Inside.Counts.IsCountStretch, Lawful.IsLawful, Lawful.IsLawfulLock, Step.run, declared.state.State.TheVariants.Locked, declared.state.State.TheVariants.Searching};
+ghost use Rattle.rds_sync.specs.{Hop.IsHop, Hop.IsPaidHop, Inside.Counts.IsCountStretch, Lawful.IsLawful, Lawful.IsLawfulLock, Step.run, declared.state.State.TheVariants.Locked, declared.state.State.TheVariants.Searching};
 
 use crate::acquiring::acquire;
 use crate::count_run::add_found;
 use crate::counts::Counts;
 use crate::due::Due;
-use crate::follow::{blocks_before, read_due};
+use crate::follow::follow_group;
 use crate::laws::items_mark_changes;
 use crate::lock::Lock;
 use crate::rules::Rules;
@@ -61,10 +61,9 @@ pub(crate) fn seek<T: Tape>(
     requires few { counts.old.items ≤ 3000 }
     ensures came { IsCountStretch (T.signal tape.old) rules.now Searching place to
         counts.old result counts.new }
-    ensures silent { (i : ℕ) → place ≤ i → i + 1 < result.0
-        → acquired (T.signal tape.old) rules.now i ≡ None }
-    ensures reads { T.reads_made tape.new
-        ≤ T.reads_made tape.old + (rules.now.reach + 1) * (result.0 - place) }
+    ensures quiet { (run (T.signal tape.old) rules.now Searching place (result.0 - 1 - place)).1 ≡ [] }
+    ensures cost { IsPaidHop (T.signal tape.old) rules.now Searching place to result.0 result.1
+        (T.reads_made tape.new - T.reads_made tape.old) }
     ensures same { T.signal tape.new ≡ T.signal tape.old }
 {
     prove!(1 <= rules.reach());
@@ -95,33 +94,22 @@ pub(crate) fn keep<T: Tape>(
     ensures came { IsCountStretch (T.signal tape.old) rules.now (Locked lock) place to
         counts.old result counts.new }
     ensures quiet { (run (T.signal tape.old) rules.now (Locked lock) place (result.0 - 1 - place)).1 ≡ [] }
-    ensures cost { ((T.reads_made tape.new ≤ T.reads_made tape.old) × (result.1 ≡ Locked lock))
-        ⊎ ((T.reads_made tape.new ≤ T.reads_made tape.old + 4) × (lock.due + 26 ≤ mark result.0 result.1)) }
+    ensures cost { IsPaidHop (T.signal tape.old) rules.now (Locked lock) place to result.0 result.1
+        (T.reads_made tape.new - T.reads_made tape.old) }
     ensures same { T.signal tape.new ≡ T.signal tape.old }
 {
-    prove!(1 <= rules.reach());
     prove!(to <= tape.len());
-    if to <= lock.due {
-        return (to, State::Locked(lock));
-    }
-    let loss = rules.loss();
-    let mut blocks = blocks_before(tape, rules, lock);
-    let mut now = lock;
-    while now.due < to {
-        let past = now.due + 1;
-        let good = read_due(tape, rules, now, &mut blocks);
-        match now.after(loss, good) {
-            Due::Inside(next) => now = next,
-            Due::Closed(next) => {
-                counts.add_group(word_of_blocks(&blocks));
-                return (past, State::Locked(next));
-            }
-            Due::Lost => {
-                counts.add_group(word_of_blocks(&blocks));
-                counts.add_loss();
-                return (past, State::Searching);
-            }
+    let (last, blocks, due) = follow_group(tape, rules, lock, place, to);
+    match due {
+        Due::Inside(next) => (to, State::Locked(next)),
+        Due::Closed(next) => {
+            counts.add_group(word_of_blocks(&blocks));
+            (last.due + 1, State::Locked(next))
+        }
+        Due::Lost => {
+            counts.add_group(word_of_blocks(&blocks));
+            counts.add_loss();
+            (last.due + 1, State::Searching)
         }
     }
-    (to, State::Locked(now))
 }

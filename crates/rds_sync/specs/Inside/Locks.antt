@@ -1,7 +1,7 @@
 -- A lock that is followed from block to block: the effect of a block on it, and the blocks of the group in progress. Cited by the bodies
 -- of all that follow a lock, and by no public call. This project's rule.
-use Rattle.std.specs.Prelude.{◌≡◌, ◌<◌, Bool, true, false, ◌≢◌, ◌+◌, ◌-◌, ◌*◌, List, [], ◌∷◌}
-use Rattle.rds_sync.specs.{declared.due.Due.Due, declared.due.Due.TheVariants.Inside, declared.due.Due.TheVariants.Closed, declared.due.Due.TheVariants.Lost, declared.lock.Lock.Lock, declared.loss.Loss.Loss, declared.state.State.State, declared.state.State.TheVariants.Searching, declared.state.State.TheVariants.Locked, Loss.bad_after, Loss.are_too_many, Loss.IsLawfulBad, Step.lock_after, Step.items_at, declared.item.Block.Block, declared.item.Item.Item, declared.item.Item.TheVariants.Group, declared.item.Item.TheVariants.LostLock, Groups.blocks_at, Groups.group_of, Lawful.AreInOrder, Lawful.HaveRoom, Rules.RuleNumbers}
+use Rattle.std.specs.Prelude.{◌≡◌, ◌<◌, Bool, true, false, ◌≢◌, ◌+◌, ◌-◌, ◌*◌, List, [], ◌∷◌, ℕ, Option, Some, None}
+use Rattle.rds_sync.specs.{Advance.items_in, declared.step.Step.Step, declared.due.Due.Due, declared.due.Due.TheVariants.Inside, declared.due.Due.TheVariants.Closed, declared.due.Due.TheVariants.Lost, declared.lock.Lock.Lock, declared.loss.Loss.Loss, declared.state.State.State, declared.state.State.TheVariants.Searching, declared.state.State.TheVariants.Locked, Loss.bad_after, Loss.are_too_many, Loss.IsLawfulBad, Step.lock_after, Step.items_at, declared.item.Block.Block, declared.item.Item.Item, declared.item.Item.TheVariants.Group, declared.item.Item.TheVariants.LostLock, Groups.blocks_at, Groups.group_of, Lawful.AreInOrder, Lawful.HaveRoom, Rules.RuleNumbers}
 use Rattle.rds_stream.specs.Recording.{Signal, length_of}
 
 -- the state to which a block that was due led
@@ -37,17 +37,33 @@ pub record IsReadable (b : Signal) (rules : RuleNumbers) (lock : Lock) : Type 0 
 abbrev pub closing : Lock → List Block → Item
 closing lock blocks = Group (group_of (lock.due - 26 * (lock.number - lock.first) - 25) blocks)
 
--- the items of the block that was due, given the blocks of its group and its effect
-abbrev pub items_of_due : Lock → List Block → Due → List Item
-items_of_due lock blocks (Inside next) = []
-items_of_due lock blocks (Closed next) = closing lock blocks ∷ []
-items_of_due lock blocks Lost = closing lock blocks ∷ LostLock lock.due ∷ []
+-- the items of the block that was due, given the blocks of its group and its effect, as a step has them
+abbrev pub slots_of : Lock → List Block → Due → List (Option Item)
+slots_of lock blocks (Inside next) = None ∷ None ∷ []
+slots_of lock blocks (Closed next) = Some (closing lock blocks) ∷ None ∷ []
+slots_of lock blocks Lost = Some (closing lock blocks) ∷ Some (LostLock lock.due) ∷ []
 
--- if the group continues, nothing was given, the next block is due after 26 places, and the blocks are those
+abbrev pub items_of_due : Lock → List Block → Due → List Item
+items_of_due lock blocks due = items_in (slots_of lock blocks due)
+
+-- how far a lock is followed by it: up to `to` if the group continues
+abbrev pub place_by : ℕ → Lock → Due → ℕ
+place_by to lock (Inside next) = to
+place_by to lock (Closed next) = lock.due + 1
+place_by to lock Lost = lock.due + 1
+
+abbrev pub step_by : ℕ → Lock → List Block → Due → Step
+step_by to lock blocks due = record {
+  place = place_by to lock due;
+  state = state_of due;
+  items = slots_of lock blocks due;
+}
+
+-- if the group continues, nothing was given, the next block of the group is due after 26 places, and the blocks are those
 -- read so far
 pub record GoesOn (b : Signal) (rules : RuleNumbers) (lock next : Lock) (blocks : List Block) : Type 0 where
   pub nothing : items_at b rules lock.due (Locked lock) ≡ []
-  pub due : next.due ≡ lock.due + 26
+  pub follows : (next.due ≡ lock.due + 26) × (next.number ≡ lock.number + 1) × (next.first ≡ lock.first)
   pub in_progress : IsInProgress b rules next blocks
 
 -- and if the block closed it, an item was given
