@@ -1,5 +1,5 @@
 -- Spans: those that are passed over, and those of a list with more after them.
-use Rattle.rds_sync.proofs.Names.{common_steps, ◌≡◌, ◌≢◌, ℕ, ◌+◌, ◌-◌, ◌<◌, ◌≤◌, List, [], ◌∷◌, ◌++◌, All, length, drop, Option, Some, refl, sym, ap, ◌∙◌, arith, length-append, append-nil, MatchOption, YieldsFirst, drop-append-add, All-cons, All-nil, Signal, Item, Span, items_of, items_in, IsSpan, ItemsOf, listed, AreSpans, RuleNumbers, subst, append_assoc, length-drop, drop-append-le, All-head, All-tail, IsAt, IsPast, AreBehind, IsInFirst, ◌^◌, min, take, get_or, min-eq_left, take-length, take-append-drop, take_more, All-drop, IsFound, take-append-add, slice_range, None, slice_get, get_or-take, get_or-drop, slice_get-get_or, slice_get_past}
+use Rattle.rds_sync.proofs.Names.{common_steps, ◌≡◌, ℕ, ◌+◌, ◌-◌, ◌<◌, ◌≤◌, List, [], ◌∷◌, ◌++◌, All, length, drop, Option, Some, refl, sym, ap, ◌∙◌, arith, length-append, append-nil, MatchOption, YieldsFirst, drop-append-add, All-cons, All-nil, Signal, Item, Span, items_of, items_in, IsSpan, ItemsOf, listed, AreSpans, RuleNumbers, subst, append_assoc, length-drop, drop-append-le, All-head, All-tail, IsAt, IsPast, AreBehind, IsInFirst, ◌^◌, min, take, get_or, min-eq_left, take-length, take-append-drop, take_more, All-drop, IsFound, take-append-add, slice_range, None, slice_get, get_or-take, get_or-drop, slice_get-get_or, slice_get_past}
 
 module _ (b : Signal) (rules : RuleNumbers) where
   -- the items of spans in two rows
@@ -11,11 +11,6 @@ module _ (b : Signal) (rules : RuleNumbers) where
   pub past_first : (span : Span) (rest : List Span) (n : ℕ) → length (items_of b rules span) ≤ n
       → drop (n - length (items_of b rules span)) (items_in b rules rest) ≡ drop n (items_in b rules (span ∷ rest))
   past_first span rest n far = grind (arith, common_steps, items_of, items_in, drop-append-add)
-
--- where nothing is given, there was nothing
-pub gives_none : (items left : List Item) (given : Option Item) → ((item : Item) → given ≢ Some item) → YieldsFirst (λ (is : List Item). is) items given left
-    → (items ≡ []) × (left ≡ [])
-gives_none items left given other gives = grind (arith, common_steps)
 
 -- where something is left, it is given
 pub gives_some : (items left : List Item) (given : Option Item) → 0 < length items

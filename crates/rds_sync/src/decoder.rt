@@ -1,11 +1,12 @@
 //! The items of a run over a recording, one after the other.
 
-ghost use Rattle.std.specs.{Prelude.◌≡◌, Prelude.◌≤◌, Prelude.◌<◌, Prelude.◌+◌, Prelude.◌-◌, Prelude.◌++◌, Prelude.◌⊎◌, Prelude.[], Prelude.false, Prelude.length, Prelude.true, Prelude.vec_capacity, Iterator.item_count};
+ghost use Rattle.std.specs.{Prelude.◌≡◌, Prelude.◌≤◌, Prelude.◌<◌, Prelude.◌+◌, Prelude.◌-◌, Prelude.◌++◌, Prelude.◌⊎◌, Prelude.[], Prelude.◌∷◌, Prelude.false, Prelude.length, Prelude.true, Prelude.vec_capacity, Iterator.item_count};
 ghost use Rattle.rds_stream.specs.Recording.{length_of};
-ghost use Rattle.rds_sync.specs.{Decoding.decoder_of, Decoding.GivesNext, Lawful.IsLawful, Step.run};
+ghost use Rattle.rds_sync.specs.{Decoding.decoder_of, Decoding.GivesNext, Lawful.IsLawful};
 
 use crate::item::Item;
 use crate::push::push_one;
+use crate::report::run_totals;
 use crate::rules::Rules;
 use crate::state::State;
 use crate::stretches::stretch;
@@ -71,6 +72,16 @@ impl<'a> Decoder<'a> {
             state,
             to,
             ready: None,
+        }
+    }
+
+    /// Only this item.
+    pub(crate) fn only(rec: &'a Recording, rules: &'a Rules, item: Item) -> Decoder<'a>
+        ensures { result.items ≡ item ∷ [] }
+    {
+        Decoder {
+            ready: Some(item),
+            ..Decoder::new(rec, rules, State::Searching, 0, 0)
         }
     }
 
@@ -164,16 +175,9 @@ impl<'a> Decoder<'a> {
     pub fn end_state(self) -> State
         ensures { result ≡ self.entry.end }
     {
-        let Decoder {
-            reader,
-            rules,
-            place,
-            state,
-            to,
-            ready: _,
-        } = self;
-        let mut reader = reader;
-        end_of(&mut reader, rules, state, place, to)
+        let rec = self.reader.recording();
+        let (end, _totals) = run_totals(rec, self.rules, self.state, self.place, self.to);
+        end
     }
 }
 
@@ -213,20 +217,3 @@ impl<'a> Iterator for Decoder<'a> {
 }
 
 impl<'a> FusedIterator for Decoder<'a> {}
-
-/// The state after the run from `state` over the bits at `from` to `to` - 1.
-fn end_of(reader: &mut Reader<'_>, rules: &Rules, state: State, from: u64, to: u64) -> State
-    requires lawful { IsLawful rules.now from state }
-    requires order { from ≤ to }
-    requires within { to ≤ length_of reader.old }
-    ensures { result ≡ (run reader.old rules.now state from (to - from)).0 }
-{
-    let mut now = state;
-    let mut place = from;
-    while place < to {
-        let step = stretch(reader, rules, now, place, to);
-        now = step.state;
-        place = step.place;
-    }
-    now
-}

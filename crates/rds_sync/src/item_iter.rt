@@ -1,13 +1,12 @@
 //! A walk over items, in order.
 
-ghost use Rattle.std.specs.Prelude.{◌≡◌, ◌≤◌, ◌<◌, ◌+◌, ◌-◌, ◌++◌, ◌⊎◌, [], ◌∷◌, All, MatchOption, length, drop, take, false, true, vec_capacity};
+ghost use Rattle.std.specs.Prelude.{◌≡◌, ◌≤◌, ◌<◌, ◌+◌, ◌-◌, ◌++◌, ◌⊎◌, [], ◌∷◌, All, MatchOption, length, drop, take, vec_capacity};
 ghost use Rattle.std.specs.Iterator.{YieldsFirst, item_count};
 ghost use Rattle.rds_stream.specs.Recording.{length_of};
 ghost use Rattle.rds_sync.specs.{Inside.Spans.IsSpan, Inside.Spans.items_in, Inside.Spans.items_of, Lawful.IsLawful, Step.run};
 
 use crate::decoder::Decoder;
 use crate::item::Item;
-use crate::push::push_one;
 use crate::rules::Rules;
 use crate::span::Span;
 use crate::state::State;
@@ -141,7 +140,8 @@ fn next_in<'a>(
     let mut rest = spans;
     while let Some((span, others)) = rest.split_first() {
         rest = others;
-        if let Some(item) = first_of(recording, rules, decoder, *span) {
+        *decoder = of_span(recording, rules, *span);
+        if let Some(item) = decoder.next() {
             return (Some(item), rest);
         }
     }
@@ -169,16 +169,10 @@ fn decoder_past<'a>(
     decoder
 }
 
-/// The first item of a span, whose others the decoder then gives.
-fn first_of<'a>(
-    recording: &'a Recording,
-    rules: &'a Rules,
-    decoder: &mut Decoder<'a>,
-    span: Span,
-) -> Option<Item>
-    requires span { IsSpan recording.now rules.now span }
-    requires done { decoder.old.items ≡ [] }
-    ensures { YieldsFirst (λ items. items) (items_of recording.now rules.now span) result decoder.new.items }
+/// The items of a span.
+fn of_span<'a>(recording: &'a Recording, rules: &'a Rules, span: Span) -> Decoder<'a>
+    requires { IsSpan recording.now rules.now span }
+    ensures { result.items ≡ items_of recording.now rules.now span }
 {
     match span {
         Span::Run {
@@ -187,13 +181,10 @@ fn first_of<'a>(
             to,
             passed,
             ..
-        } => {
-            *decoder = decoder_past(recording, rules, state, place, to, passed);
-            decoder.next()
-        }
+        } => decoder_past(recording, rules, state, place, to, passed),
         Span::End { state } => match finish(&mut Counted::new(recording), rules, state) {
-            Some(group) => Some(Item::Group(group)),
-            None => None,
+            Some(group) => Decoder::only(recording, rules, Item::Group(group)),
+            None => Decoder::new(recording, rules, State::Searching, 0, 0),
         },
     }
 }
@@ -226,45 +217,8 @@ fn push_from<'a>(
             return rest;
         };
         rest = others;
-        push_span(recording, rules, decoder, *span, part, most);
+        *decoder = of_span(recording, rules, *span);
+        decoder.push_until(part, most);
     }
     rest
-}
-
-/// Appends the items of a span, until there are `most` or none is left. The decoder then gives the others.
-fn push_span<'a>(
-    recording: &'a Recording,
-    rules: &'a Rules,
-    decoder: &mut Decoder<'a>,
-    span: Span,
-    part: &mut Vec<Item>,
-    most: usize,
-)
-    requires span { IsSpan recording.now rules.now span }
-    requires done { decoder.old.items ≡ [] }
-    requires order { length part.old.items < most }
-    requires room { most ≤ vec_capacity part.old }
-    ensures items { part.old.items ++ items_of recording.now rules.now span
-        ≡ part.new.items ++ decoder.new.items }
-    ensures full { (decoder.new.items ≡ []) ⊎ (length part.new.items ≡ most) }
-    ensures most { length part.new.items ≤ most }
-    ensures room { vec_capacity part.new ≡ vec_capacity part.old }
-{
-    match span {
-        Span::Run {
-            place,
-            state,
-            to,
-            passed,
-            ..
-        } => {
-            let mut run = decoder_past(recording, rules, state, place, to, passed);
-            run.push_until(part, most);
-            *decoder = run;
-        }
-        Span::End { state } => match finish(&mut Counted::new(recording), rules, state) {
-            Some(group) => push_one(part, &Item::Group(group)),
-            None => {}
-        },
-    }
 }

@@ -24,6 +24,7 @@ use rds_stream::Tape;
 ///
 /// It asks the tape for at most `reach` + 1 windows while searching, and at most four while locked; for none
 /// if no block is due before `to`. The tape has counted at most 2^63 - 16 windows before. Takes no memory.
+#[tactic(auto, using(crate::proofs::Lemmas::advance))]
 pub fn advance<T: Tape>(tape: &mut T, rules: &Rules, state: State, place: u64, to: u64) -> Step
     requires lawful { IsLawful rules.now place state }
     requires before { place < to }

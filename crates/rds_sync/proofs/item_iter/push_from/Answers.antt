@@ -1,4 +1,4 @@
-use Rattle.rds_sync.proofs.Lemmas.{common_steps, ◌≡◌, [], List, All, subst, ◌∙◌, arith, inl, inr, All-tail, Span, IsSpan, items_in, span_taken, with_more}
+use Rattle.rds_sync.proofs.Lemmas.{common_steps, ◌≡◌, [], List, All, subst, ◌∙◌, arith, inl, inr, All-tail, Span, IsSpan, items_in, span_taken, with_more, Item, ap, sym, ◌++◌}
 use Rattle.rds_sync.proofs.item_iter.push_from.Goals as goal
 
 pub loop-rest-init : goal.loop-rest-init
@@ -18,8 +18,9 @@ loop-rest-preserved c =
     ] in
     record {
       all = All-tail (IsSpan b rules) span others (subst (λ (spans : List Span). All (IsSpan b rules) spans) is before.all);
-      items = span_taken b rules span others c.loop-rest.rest.now _ _ _ _ _ before.items none is c.push_span.ensures.items;
-      full = c.push_span.ensures.full;
-      most = c.push_span.ensures.most;
-      room = c.push_span.ensures.room ∙ before.room;
+      items = span_taken b rules span others c.loop-rest.rest.now _ _ _ _ _ before.items none is
+          (ap (λ (items : List Item). c.loop-rest.part.items ++ items) (sym c.of_span.ensures) ∙ c.push_until-in-loop-rest.ensures.items);
+      full = c.push_until-in-loop-rest.ensures.full;
+      most = c.push_until-in-loop-rest.ensures.most;
+      room = c.push_until-in-loop-rest.ensures.room ∙ before.room;
     }
