@@ -33,3 +33,11 @@ pub ruleset blocks_heard = (common_steps, heard-blocks)
 pub ruleset group_so_far = (common_steps, group_of)
 
 pub ruleset advance = (common_steps, append-nil, items_at, run, step, lawful-lock, lawful-waiting, run-due, run-early)
+
+pub ruleset tally_run = (common_steps, gone-none, gone-again, run)
+
+pub ruleset acquiring = (common_steps, acquired-early, acquired-none, off-heard)
+
+pub ruleset span_pushed = (common_steps, items_in, items_of, items_in-push, items_in-append, spans-push, spans-behind, alike, over)
+
+pub ruleset sought = (common_steps, quiet-acquired, run_searching, run-quiet, run-unfound, added-nothing)

@@ -77,6 +77,7 @@ fn is_in_step(offset: Option<Offset>, number: BlockNumber, distance: u32) -> boo
 }
 
 /// Whether and how a place acquires: as a valid block with a partner.
+#[tactic(auto, using(crate::proofs::Lemmas::acquiring))]
 pub(crate) fn acquire<T: Tape>(tape: &mut T, rules: &Rules, place: u64) -> Option<Acquisition>
     requires within { place < length_of (T.signal tape.old) }
     requires counted { T.reads_made tape.old + 16 ≤ 2 ^ 63 }

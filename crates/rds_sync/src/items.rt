@@ -1,6 +1,6 @@
 //! The items of a report.
 
-ghost use Rattle.std.specs.Prelude.{◌≡◌, ◌==◌, ◌+◌, ◌-◌, ◌<◌, ◌≤◌, ◌++◌, [], All, drop, length, take, slice_get, slice_range, IfOk, OnOk, OnErr};
+ghost use Rattle.std.specs.Prelude.{◌≡◌, ◌==◌, ◌+◌, ◌-◌, ◌<◌, ◌≤◌, ◌++◌, [], All, drop, length, slice_get, slice_range, IfOk, OnOk, OnErr};
 ghost use Rattle.rds_stream.specs.Recording.{length_of, Signal};
 ghost use Rattle.rds_sync.specs.{Decoding.listed, Inside.Spans.AreBehind, Inside.Spans.IsAt, Inside.Spans.IsInFirst, Inside.Spans.IsSpan, Inside.Spans.items_in, Lawful.IsLawful, Rules.RuleNumbers, Step.run, Step.items_of_end};
 
@@ -186,6 +186,7 @@ impl Items {
 
     /// Appends the `items` items of the run from `state` over the places from `from` to before `to`, in one span: to
     /// come to one of them, those before it are decoded. Refused memory, it leaves the list as it was.
+    #[tactic(auto, using(crate::proofs::Lemmas::span_pushed))]
     pub fn push_span(
         &mut self,
         state: State,
@@ -217,6 +218,7 @@ impl Items {
 
     /// Appends the item of the recording's end, if the run over it ended in `state`: the group in progress,
     /// if there is one. If memory is refused, it leaves the list as it was.
+    #[tactic(auto, using(crate::proofs::Lemmas::span_pushed))]
     pub fn close(&mut self, state: State) -> Result<(), AllocError>
         requires lawful { IsLawful self.old.rules (length_of self.old.source) state }
         ensures ok { OnOk result (self.new ≡ listed self.old.source self.old.rules

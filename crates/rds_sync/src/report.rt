@@ -34,6 +34,7 @@ pub struct Report {
 /// Its cost: a search covers 64 places at once, and looks up to `reach` windows back from each valid one. A
 /// lock reads a window every 26 bits, and those of a group in which it may be lost three times at most. It
 /// takes memory only for the spans of the list.
+#[tactic(auto, using(crate::proofs::Lemmas::tally_run))]
 pub fn run_report(
     alloc: Global,
     rec: &Recording,

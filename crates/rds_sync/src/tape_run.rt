@@ -48,6 +48,7 @@ pub(crate) fn hop<T: Tape>(
 }
 
 /// Searches up to and including the first place that acquires, or up to `to`.
+#[tactic(auto, using(crate::proofs::Lemmas::sought))]
 pub(crate) fn seek<T: Tape>(
     tape: &mut T,
     rules: &Rules,

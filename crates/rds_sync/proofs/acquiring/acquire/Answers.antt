@@ -1,4 +1,4 @@
-use Rattle.rds_sync.proofs.Lemmas.{common_steps, arith, ◌≡◌, ◌≤◌, ℕ, Bool, true, false, Option, Some, None, ap, ◌∙◌, list_any, range_with_len, Offset, number, Signal, heard, offset_heard, offset_at, RuleNumbers, acquired, has_partner, acquired-none, off-heard, acquired-early, acquired-offset}
+use Rattle.rds_sync.proofs.Lemmas.{common_steps, arith, ◌≡◌, ◌≤◌, ℕ, Bool, true, false, Option, Some, None, ap, ◌∙◌, list_any, range_with_len, Offset, number, Signal, heard, offset_heard, offset_at, RuleNumbers, acquired, has_partner, off-heard, acquired-offset}
 use Rattle.rds_sync.proofs.acquiring.acquire.{Given.Over, Goals.After-has_partner}
 use Rattle.rds_sync.proofs.acquiring.acquire.Goals as goal
 
@@ -6,12 +6,6 @@ use Rattle.rds_sync.proofs.acquiring.acquire.Goals as goal
 offset_is : (b : Signal) (place : ℕ) (h : Option ℕ) (read answer : Option Offset)
     → 25 ≤ place → h ≡ heard b place → read ≡ offset_heard h → read ≡ answer → offset_at b place ≡ answer
 offset_is b place h read answer late heard_is read_is is = grind (arith, common_steps, off-heard, offset_heard)
-
-pub returns-then-place-lt-FIRST_WINDOW-clause-number : goal.returns-then-place-lt-FIRST_WINDOW-clause-number
-returns-then-place-lt-FIRST_WINDOW-clause-number g c = grind (arith, common_steps, acquired-early, c.if-place-lt-FIRST_WINDOW.true)
-
-pub returns-in_default-clause-number : goal.returns-in_default-clause-number
-returns-in_default-clause-number g c = grind (arith, common_steps, offset_is, acquired-none)
 
 -- whether the place acquires, by whether there is a partner
 answer : (b later : Signal) (rules : RuleNumbers) (place n : ℕ) (o : Offset) (found is_found : Bool) → offset_at b place ≡ Some o → n ≡ number o

@@ -1,4 +1,4 @@
-use Rattle.rds_sync.proofs.Lemmas.{◌≡◌, ℕ, ◌-◌, ◌<◌, ◌≤◌, List, ◌++◌, refl, sym, ap, ◌∙◌, arith, inl, Signal, Lock, Item, State, Locked, CountOf, added, HasCountedOn, IsCountStretch, IsLawful, IsLawfulLock, RuleNumbers, run, run-early, run_places}
+use Rattle.rds_sync.proofs.Lemmas.{common_steps, ◌≡◌, ℕ, ◌-◌, ◌<◌, ◌≤◌, List, ◌++◌, refl, ap, ◌∙◌, arith, inl, Signal, Lock, Item, State, Locked, CountOf, HasCountedOn, IsCountStretch, IsLawful, IsLawfulLock, RuleNumbers, run, run-early, run_places}
 use Rattle.rds_sync.proofs.count_run.keep_on.Goals as goal
 
 module _ (b : Signal) (rules : RuleNumbers) (lock next : Lock) (place to : ℕ) (before after : CountOf) (passed : HasCountedOn b rules lock to before next after)
@@ -26,13 +26,7 @@ module _ (b : Signal) (rules : RuleNumbers) (lock next : Lock) (place to : ℕ) 
       }
 
   stretch-is : IsCountStretch b rules (Locked lock) place to before (next.due - 25, Locked next) after
-  stretch-is = record {
-    forward = omega (arith, lawful.soon.0, passed.far more);
-    limit = passed.limit more;
-    state = sym passed.state ∙ ap (λ (r : State × List Item). r.0) same-run;
-    counts = passed.counts ∙ ap (λ (r : State × List Item). added before r.1) same-run;
-    lawful = lawful-next;
-  }
+  stretch-is = grind (arith, common_steps, same-run, lawful-next)
 
 pub count_whole_groups-next-requires-clause-near : goal.count_whole_groups-next-requires-clause-near
 count_whole_groups-next-requires-clause-near c = let soon = c.requires.lawful.soon in omega (arith, soon.1, c.requires.order, c.if-prove.false, c.len.ensures.limit)

@@ -1,4 +1,4 @@
-use Rattle.rds_sync.proofs.Lemmas.{◌≡◌, ℕ, ◌+◌, ◌-◌, ◌<◌, ◌≤◌, List, [], ◌∷◌, sym, ap, subst, ◌∙◌, arith, Signal, Lock, Item, Group, Loss, State, Locked, group, HasCountedOn, CountOf, added, joined, group_count, Outcome, IsKeptOver, blocks_in, RuleNumbers, run, added-further, group-added, outcomes, one_more}
+use Rattle.rds_sync.proofs.Lemmas.{common_steps, ◌≡◌, ℕ, ◌+◌, ◌-◌, ◌<◌, ◌≤◌, List, [], ◌∷◌, ap, subst, ◌∙◌, arith, Signal, Lock, Group, Loss, Locked, group, HasCountedOn, CountOf, joined, group_count, Outcome, IsKeptOver, blocks_in, RuleNumbers, run, added-further, group-added, outcomes, one_more}
 use Rattle.rds_sync.proofs.whole_groups.count_whole_groups.Goals as goal
 
 -- one whole group more
@@ -11,17 +11,8 @@ module _ (b : Signal) (rules : RuleNumbers) (lock now : Lock) (to : ℕ) (before
       let the_group = group b rules 1 4 (now.due + 78) in
       let kept = subst (λ (os : List Outcome). IsKeptOver rules.loss os now.bad bad) word_is over in
       let total = one_more b rules lock now bad start passed.from_on passed.between passed.state kept.kept kept.bad in
-      record {
-        between = passed.between;
-        few_bad = over.lawful;
-        from_on = omega (arith, passed.from_on);
-        limit = λ more. omega (arith, room);
-        far = λ more. omega (arith, passed.from_on);
-        state = ap (λ (r : State × List Item). r.0) total;
-        counts = added-further before counts after (run b rules (Locked lock) (lock.due - 25) (now.due - lock.due)).1 (Group the_group ∷ []) passed.counts
-            (pushed ∙ group-added counts the_group (blocks_in word) word_is)
-            ∙ ap (λ (r : State × List Item). added before r.1) (sym total);
-      }
+      let counts = added-further before counts after (run b rules (Locked lock) (lock.due - 25) (now.due - lock.due)).1 (Group the_group ∷ []) passed.counts (pushed ∙ group-added counts the_group (blocks_in word) word_is) in
+      grind (arith, common_steps, total, counts, over)
 
 pub loop-items-preserved : goal.loop-items-preserved
 loop-items-preserved c =
