@@ -236,6 +236,7 @@ impl Items {
 
     /// Appends the items of `other`, which is of the same recording by the same rules. Its spans are copied, or
     /// moved to a list that has none. Refused memory, it leaves the list as it was.
+    #[tactic(auto, using(crate::proofs::Lemmas::span_pushed))]
     pub fn append(&mut self, other: Items) -> Result<(), AllocError>
         requires source { other.source ≡ self.old.source }
         requires rules { other.rules ≡ self.old.rules }
