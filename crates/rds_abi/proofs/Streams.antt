@@ -1,5 +1,5 @@
 -- A stream as a decoder has it, and as its numbers say it.
-use Rattle.rds_abi.proofs.Shared.{common_steps, ◌≡◌, ◌+◌, ◌*◌, ◌/◌, ◌^◌, ◌<◌, ◌≤◌, ◌++◌, ◌⊎◌, ℕ, List, Option, arith, length, min, subst, take, length-map, group_item, Item, HasHeard, LiveOf, Terms, complete, most_kept, report_at, report_of, AreClosed, AreLeft, AreTooMany, IsFollowed, IsLeft, RefusesEnd, RefusesFollowed, RefusesLast, RefusesPush, RefusesStream, place_after, stream_of, terms_of, AreGiven, state_of, item_in_c, totals_in_c, RdsGap, RdsRules, RdsStream, RdsState, Refusal, SmallRoom, TooLong}
+use Rattle.rds_abi.proofs.Shared.{common_steps, ◌≡◌, ◌+◌, ◌*◌, ◌/◌, ◌^◌, ◌<◌, ◌≤◌, ◌++◌, ◌⊎◌, ℕ, List, Option, arith, length, min, subst, take, length-map, group_item, Item, HasHeard, LiveOf, Terms, complete, most_kept, report_at, report_of, AreClosed, AreLeft, AreTooMany, IsFollowed, IsLeft, RefusesEnd, RefusesLast, RefusesPush, RefusesStream, place_after, stream_of, terms_of, AreGiven, state_of, item_in_c, totals_in_c, RdsGap, RdsRules, RdsStream, RdsState, Refusal, SmallRoom, TooLong}
 use Rattle.rds_abi.specs.declared.layout.RdsTotals.{RdsTotals}
 use Rattle.rds_sync.specs.declared.item.Group.{Group as GroupRecord}
 
@@ -21,12 +21,6 @@ pub refused_push : (rules : RdsRules) (gaps : List RdsGap) (s : RdsStream) (byte
     ⊎ ((RefusesStream (terms_of rules gaps) s refusal ⊎ (IsLeft (terms_of rules gaps) s × (2 ^ 36 < place_after s bytes) × (refusal ≡ TooLong))) × Same)
     → (IsFollowed rules gaps s × (place_after s bytes ≤ 2 ^ 36) × TooMany) ⊎ (RefusesPush rules gaps s bytes refusal × Same)
 refused_push rules gaps s bytes r TooMany Same range refused = grind (arith, common_steps)
-
--- and of its end
-pub refused_end : (rules : RdsRules) (gaps : List RdsGap) (s : RdsStream) (refusal : Refusal) (TooMany Same : Type 0) → AreGiven rules
-    → (IsLeft (terms_of rules gaps) s × TooMany) ⊎ (RefusesStream (terms_of rules gaps) s refusal × Same)
-    → (IsFollowed rules gaps s × TooMany) ⊎ (RefusesFollowed rules gaps s refusal × Same)
-refused_end rules gaps s r TooMany Same range refused = grind (arith, common_steps)
 
 -- and of its last bits
 pub refused_last : (rules : RdsRules) (gaps : List RdsGap) (s : RdsStream) (bytes : List ℕ) (bits : ℕ) (refusal : Refusal) → AreGiven rules
