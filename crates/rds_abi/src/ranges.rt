@@ -59,27 +59,16 @@ pub(crate) fn loss_in_c(loss: Loss) -> (u32, u32)
     }
 }
 
-/// A search, or none if its numbers are not all 0.
-fn search_of(s: RdsState) -> Option<State>
-    requires { s.number ≡ 0 }
-    ensures some { IfSome result (λ state. (state ≡ Searching) × (s ≡ searching_in_c)) }
-    ensures none { result ≡ None → s ≡ searching_in_c → ⊥ }
-{
-    if s == RdsState::SEARCHING {
-        Some(State::Searching)
-    } else {
-        None
-    }
-}
-
 /// The state that these numbers say, or none if no call can have left them before `place`.
 pub(crate) fn state_of(rules: &Rules, s: RdsState, place: u64) -> Option<State>
     ensures some { IfSome result (λ state. state ≡ the_state_of s) }
     ensures left { IfSome result (λ _. IsLeftState rules.now place s) }
     ensures none { result ≡ None → IsLeftState rules.now place s → ⊥ }
 {
-    if s.number == 0 {
-        search_of(s)
+    if s == RdsState::SEARCHING {
+        Some(State::Searching)
+    } else if s.number == 0 {
+        None
     } else {
         lock_of(rules, s, place)
     }

@@ -459,39 +459,16 @@ fn take_piece(
     let piece = &bytes[..bytes.len().min(most)];
     match live.take(piece, some) {
         Ok(taken) => {
-            let count = write_taken(live, rules, some, stream, room)?;
+            let count = some.len();
+            if room.len() < count {
+                return Err(count);
+            }
+            fill_room(room, some);
+            *stream = stream_in_c(rules, live);
             Ok(Fit { taken, count })
         }
         Err(_) => unreachable!(),
     }
-}
-
-/// Writes the items, and the stream that the decoder has after them. Refuses if they do not fit. Either way it tells how many they are.
-fn write_taken(
-    live: &StreamDecoder<'_>,
-    rules: &Rules,
-    items: &[Item],
-    stream: &mut RdsStream,
-    room: &mut [RdsItem],
-) -> Result<usize, usize>
-    requires { live.now.terms.rules ≡ rules.now }
-    ensures laid { OnOk result (stream.new ≡ the_stream_in_c live.now) }
-    ensures says { OnOk result (the_stream_of live.now.terms stream.new ≡ live.now) }
-    ensures live { OnOk result (IsStreamDecoder live.now) }
-    ensures filled { OnOk result (IsFilled (map item_in_c items.now) room.old room.new) }
-    ensures count { IfOk result (λ count. count ≡ length items.now) }
-    ensures room { OnOk result (length items.now ≤ length room.old) }
-    ensures small { OnErr result (length room.old < length items.now) }
-    ensures needed { IfErr result (λ needed. needed ≡ length items.now) }
-    ensures untouched { OnErr result ((room.new ≡ room.old) × (stream.new ≡ stream.old)) }
-{
-    let count = items.len();
-    if room.len() < count {
-        return Err(count);
-    }
-    fill_room(room, items);
-    *stream = stream_in_c(rules, live);
-    Ok(count)
 }
 
 /// Ends a stream: writes the group in progress, as far as it was read, to the beginning of `room`, and to `count` how many groups these
