@@ -4,7 +4,7 @@ ghost use Rattle.std.specs.Prelude.{◌≡◌, ◌≢◌, ◌+◌, ◌-◌, ◌^
 ghost use Rattle.rds_stream.specs.Recording.{length_of};
 ghost use Rattle.rds_sync.specs.{Advance.group_item, Lawful.IsLawful as IsLawfulState, Rules.RuleNumbers, declared.state.State.TheVariants.Searching, Step.run as the_run};
 ghost use Rattle.rds_live.specs.{Moving.IsPartHeard, Moving.moved_item, Moving.moved_items, Moving.moved_state, Places.place_of};
-ghost use Rattle.rds_abi.specs.Ranges.{IsLeftState, IsRun, RefusesItemsAtEnd, RefusesItemsOfRun, RefusesRun, items_at_end, items_of_run, loss_in_c as the_loss_in_c, run_asked, run_from, searching_in_c, state_in_c as the_state_in_c, state_of as the_state_of};
+ghost use Rattle.rds_abi.specs.Ranges.{IsLeftState, IsRun, RefusesItemsAtEnd, RefusesItemsOfRun, RefusesRun, items_at_end, items_of_run, loss_in_c as the_loss_in_c, run_asked, run_from, state_in_c as the_state_in_c, state_of as the_state_of};
 ghost use Rattle.rds_abi.specs.{Asked.IsFilled, Asked.IsTooMuch, Asked.asked, Asked.recording_of as the_recording_of, Asked.rules_of as the_rules_of, declared.refusal.Refusal.TheVariants.OutOfMemory, declared.refusal.Refusal.TheVariants.PlaceRange, declared.refusal.Refusal.TheVariants.SmallRoom, declared.refusal.Refusal.TheVariants.UnlawfulState, Layout.item_in_c};
 
 use crate::asked::{refuse_recording, rules_of};

@@ -447,7 +447,8 @@ impl<'r> StreamDecoder<'r> {
         ensures known { live_next self.now [] ≡ self.now }
         ensures none { completed self.now [] ≡ [] }
     {
-        no_items_count(&self.totals);
+        let bursts: &[u64] = &self.totals.bursts;
+        prove!(bursts.len() == 5);
     }
 
     /// Its numbers, without its terms.
@@ -625,22 +626,7 @@ fn stream_end_of(totals: Totals, group: Option<Group>) -> StreamEnd
     ensures group { result.group ≡ group }
     ensures totals { result.totals ≡ plus totals (totals_of (group_item group)) }
 {
-    let totals = totals.plus(totals_of_end(&group));
+    let closed = &group;
+    let totals = totals.plus(Totals::of_end(*closed));
     StreamEnd { group, totals }
-}
-
-/// No items count nothing.
-fn no_items_count(totals: &Totals)
-    ensures { plus totals.now (totals_of []) ≡ totals.now }
-{
-    let bursts: &[u64] = &totals.bursts;
-    prove!(bursts.len() == 5);
-}
-
-/// The totals of the group in progress.
-fn totals_of_end(group: &Option<Group>) -> Totals
-    ensures value { result ≡ totals_of (group_item group.now) }
-    ensures small { IsAtMost (2 ^ 10) result }
-{
-    Totals::of_end(*group)
 }
