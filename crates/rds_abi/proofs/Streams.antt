@@ -42,10 +42,6 @@ module _ (terms : Terms) (s : RdsStream) (live : LiveOf) (is : live ≡ stream_o
   left bytes bits items gives =
       subst (λ (l : LiveOf). (before : List ℕ) → HasHeard l before → complete l.terms before ++ items ≡ report_at l.terms (before ++ bytes) (8 * length before + bits)) is gives
 
-  -- n more bits fit
-  pub fits : (n : ℕ) → live.place + n ≤ 2 ^ 36 → s.place + n ≤ 2 ^ 36
-  fits n = grind (arith, common_steps)
-
 module _ (wanted : List Item → Type 0) (items : List Item) (found : wanted items) (count : ℕ) (told : count ≡ length items) where
   -- items that have no room
   pub too_many : (room : ℕ) → room < length items → AreTooMany wanted room SmallRoom count
