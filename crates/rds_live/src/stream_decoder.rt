@@ -25,8 +25,6 @@ const ITEMS_A_BYTE: usize = 16;
 /// Room for as many items as [`StreamDecoder::take`] completes at once, whatever it is handed.
 pub const MOST_ITEMS: usize = AT_ONCE * ITEMS_A_BYTE;
 
-const NO_GAPS: &[(u64, u64)] = &[];
-
 /// A decoder of a stream of bits, which takes them as they come: this project's rule.
 ///
 /// Contracts see its knowledge of the stream: its rules and gaps, the last bytes, how many bits there were,
@@ -83,7 +81,7 @@ impl<'r> StreamDecoder<'r> {
         ensures live { IfOk result (λ live. live ≡ live_of (by_rules rules.now) []) }
         ensures only_memory { IsOkUnless result RdsError.OutOfMemory }
     {
-        StreamDecoder::with_gaps(alloc, rules, NO_GAPS)
+        StreamDecoder::with_gaps(alloc, rules, &[])
     }
 
     /// A decoder that has heard nothing yet, of a stream with these gaps: each is the places from its first number to before
