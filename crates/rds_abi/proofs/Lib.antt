@@ -1,5 +1,4 @@
 mod Shared
-pub mod Rooms
 pub mod Streams
 pub mod GapLists
 pub mod PartRuns

@@ -1,5 +1,5 @@
 -- A stream as a decoder has it, and as its numbers say it.
-use Rattle.rds_abi.proofs.Shared.{common_steps, ◌≡◌, ◌+◌, ◌*◌, ◌/◌, ◌^◌, ◌<◌, ◌≤◌, ◌++◌, ◌⊎◌, ℕ, List, Option, arith, length, min, subst, take, length-map, group_item, Item, HasHeard, LiveOf, Terms, complete, most_kept, report_at, report_of, AreClosed, AreLeft, AreTooMany, IsFollowed, IsLeft, RefusesEnd, RefusesFollowed, RefusesLast, RefusesPush, RefusesStream, place_after, stream_of, terms_of, AreGiven, state_of, item_in_c, totals_in_c, RdsGap, RdsRules, RdsStream, RdsState, Refusal, SmallRoom, TooLong}
+use Rattle.rds_abi.proofs.Shared.{common_steps, ◌≡◌, ◌+◌, ◌*◌, ◌/◌, ◌^◌, ◌<◌, ◌≤◌, ◌++◌, ◌⊎◌, ℕ, List, Option, arith, length, min, subst, take, length-map, group_item, Item, HasHeard, LiveOf, Terms, complete, most_kept, report_at, report_of, AreClosed, AreLeft, AreTooMany, IsFollowed, IsLeft, RefusesEnd, RefusesLast, RefusesPush, RefusesStream, place_after, stream_of, terms_of, AreGiven, state_of, item_in_c, totals_in_c, RdsGap, RdsRules, RdsStream, RdsState, Refusal, SmallRoom, TooLong}
 use Rattle.rds_abi.specs.declared.layout.RdsTotals.{RdsTotals}
 use Rattle.rds_sync.specs.declared.item.Group.{Group as GroupRecord}
 
@@ -22,12 +22,6 @@ pub refused_push : (rules : RdsRules) (gaps : List RdsGap) (s : RdsStream) (byte
     → (IsFollowed rules gaps s × (place_after s bytes ≤ 2 ^ 36) × TooMany) ⊎ (RefusesPush rules gaps s bytes refusal × Same)
 refused_push rules gaps s bytes r TooMany Same range refused = grind (arith, common_steps)
 
--- and of its end
-pub refused_end : (rules : RdsRules) (gaps : List RdsGap) (s : RdsStream) (refusal : Refusal) (TooMany Same : Type 0) → AreGiven rules
-    → (IsLeft (terms_of rules gaps) s × TooMany) ⊎ (RefusesStream (terms_of rules gaps) s refusal × Same)
-    → (IsFollowed rules gaps s × TooMany) ⊎ (RefusesFollowed rules gaps s refusal × Same)
-refused_end rules gaps s r TooMany Same range refused = grind (arith, common_steps)
-
 -- and of its last bits
 pub refused_last : (rules : RdsRules) (gaps : List RdsGap) (s : RdsStream) (bytes : List ℕ) (bits : ℕ) (refusal : Refusal) → AreGiven rules
     → RefusesStream (terms_of rules gaps) s refusal ⊎ (IsLeft (terms_of rules gaps) s × RefusesLast s bytes bits refusal)
@@ -47,10 +41,6 @@ module _ (terms : Terms) (s : RdsStream) (live : LiveOf) (is : live ≡ stream_o
       → AreLeft terms s bytes bits items
   left bytes bits items gives =
       subst (λ (l : LiveOf). (before : List ℕ) → HasHeard l before → complete l.terms before ++ items ≡ report_at l.terms (before ++ bytes) (8 * length before + bits)) is gives
-
-  -- n more bits fit
-  pub fits : (n : ℕ) → live.place + n ≤ 2 ^ 36 → s.place + n ≤ 2 ^ 36
-  fits n = grind (arith, common_steps)
 
 module _ (wanted : List Item → Type 0) (items : List Item) (found : wanted items) (count : ℕ) (told : count ≡ length items) where
   -- items that have no room

@@ -1,5 +1,5 @@
 -- The layout of totals, blocks and items in C: plain numbers only. Each call that writes some cites it. This project's rules.
-use Rattle.std.specs.Prelude.{ℕ, [], ◌∷◌, map, replicate, Option, None, Some, if◌then◌else◌}
+use Rattle.std.specs.Prelude.{Bool, List, ℕ, map, replicate, Option, None, Some, if◌then◌else◌}
 use Rattle.rds_code.specs.declared.{offset.Offset.Offset, reading.Reading.Reading, reading.Reading.TheVariants.Valid, reading.Reading.TheVariants.Corrected, reading.Reading.TheVariants.Lost}
 use Rattle.rds_code.specs.declared.offset.Offset.TheVariants as offset
 use Rattle.rds_sync.specs.declared.{item.Block.Block, item.Block.TheVariants.Missing, item.Block.TheVariants.Read, item.Item.Item, item.Item.TheVariants.Acquired, item.Item.TheVariants.Group, item.Item.TheVariants.LostLock, item.Version.Version, item.Version.TheVariants.A, item.Version.TheVariants.B, item.Version.TheVariants.Unknown, totals.Totals.Totals}
@@ -58,21 +58,28 @@ abbrev pub kind_in_c : Option ℕ → ℕ
 kind_in_c None = 255
 kind_in_c (Some kind) = kind
 
--- an item: 1 is an acquisition, with the number of its block; 2 a group, with its type; 3 a loss
-abbrev pub item_in_c : Item → RdsItem
-item_in_c (Acquired a x) =
-    record { place = a; blocks = no_block ∷ no_block ∷ no_block ∷ no_block ∷ []; what = 1; number = x; version = 0; conflict = 0; unused = 0 }
-item_in_c (Group g) = record {
-  place = g.place;
-  blocks = map block_in_c g.blocks;
+-- a group: 2, with its type
+abbrev pub group_in_c : ℕ → List RdsBlock → Option ℕ → Version → Bool → RdsItem
+group_in_c place blocks kind version conflict = record {
+  place = place;
+  blocks = blocks;
   what = 2;
-  number = kind_in_c g.kind;
-  version = version_in_c g.version;
-  conflict = if g.conflict then 1 else 0;
+  number = kind_in_c kind;
+  version = version_in_c version;
+  conflict = if conflict then 1 else 0;
   unused = 0;
 }
-item_in_c (LostLock a) =
-    record { place = a; blocks = no_block ∷ no_block ∷ no_block ∷ no_block ∷ []; what = 3; number = 0; version = 0; conflict = 0; unused = 0 }
+
+-- an acquisition, with the number of its block, or a loss
+abbrev pub mark_in_c : ℕ → ℕ → ℕ → RdsItem
+mark_in_c place what number =
+    record { place = place; blocks = replicate 4 no_block; what = what; number = number; version = 0; conflict = 0; unused = 0 }
+
+-- an item: 1 is an acquisition, 2 a group, 3 a loss
+abbrev pub item_in_c : Item → RdsItem
+item_in_c (Acquired a x) = mark_in_c a 1 x
+item_in_c (Group g) = group_in_c g.place (map block_in_c g.blocks) g.kind g.version g.conflict
+item_in_c (LostLock a) = mark_in_c a 3 0
 
 -- ---- read again from symbols: a corrected block has the mask of its flips
 
@@ -86,14 +93,6 @@ soft_block_in_c SoftMissing = no_block
 soft_block_in_c (SoftRead reading) = soft_reading_in_c reading
 
 abbrev pub soft_item_in_c : SoftItem → RdsItem
-soft_item_in_c (InSoft g) = record {
-  place = g.place;
-  blocks = map soft_block_in_c g.blocks;
-  what = 2;
-  number = kind_in_c g.kind;
-  version = version_in_c g.version;
-  conflict = if g.conflict then 1 else 0;
-  unused = 0;
-}
+soft_item_in_c (InSoft g) = group_in_c g.place (map soft_block_in_c g.blocks) g.kind g.version g.conflict
 soft_item_in_c (SoftAcquired a x) = item_in_c (Acquired a x)
 soft_item_in_c (SoftLostLock a) = item_in_c (LostLock a)

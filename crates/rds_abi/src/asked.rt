@@ -2,7 +2,7 @@
 
 ghost use Rattle.std.specs.{Prelude.◌≡◌, Prelude.◌<◌, Prelude.◌≤◌, Prelude.◌↔◌, Prelude.IfErr, Prelude.IfOk, Prelude.OnOk, Prelude.length, Prelude.true, List.All, List.AllAdjacentBelow};
 ghost use Rattle.rds_stream.specs.Recording.{AreGaps, length_of};
-ghost use Rattle.rds_abi.specs.{Asked.IsLawful, Asked.AreGiven, Asked.AreReserved, Asked.IsRecording, Asked.Refuses, Asked.RefusesGiven, Asked.RefusesRecording, Asked.asked, Asked.gaps_of, Asked.recording_of as the_recording_of, Asked.rules_of as the_rules_of, declared.refusal.Refusal.TheVariants.BadGaps};
+ghost use Rattle.rds_abi.specs.{Asked.IsLawful, Asked.AreGiven, Asked.IsRecording, Asked.Refuses, Asked.RefusesGiven, Asked.RefusesRecording, Asked.asked, Asked.gaps_of, Asked.recording_of as the_recording_of, Asked.rules_of as the_rules_of, declared.refusal.Refusal.TheVariants.BadGaps};
 
 use crate::layout::{RdsGap, RdsRules};
 use crate::refusal::Refusal;
@@ -30,20 +30,13 @@ fn numbers_of(asked: RdsRules) -> RuleNumbers
     }
 }
 
-/// Whether the reserved fields are 0.
-fn are_reserved(asked: RdsRules) -> bool
-    ensures { (result ≡ true) ↔ AreReserved asked }
-{
-    asked.reserved == [0; 4]
-}
-
 /// The rules of these numbers.
 pub(crate) fn rules_of(alloc: Global, asked: RdsRules) -> Result<Rules, Refusal>
     ensures rules { IfOk result (λ rules. rules ≡ the_rules_of asked) }
     ensures given { IfOk result (λ _. AreGiven asked) }
     ensures refused { IfErr result (RefusesGiven asked) }
 {
-    if !are_reserved(asked) {
+    if asked.reserved != [0; 4] {
         return Err(Refusal::ReservedField);
     }
     match Rules::of(alloc, numbers_of(asked)) {

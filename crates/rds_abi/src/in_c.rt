@@ -1,13 +1,12 @@
 //! Items, blocks and totals, laid out for C.
 
-ghost use Rattle.std.specs.Prelude.{◌≡◌, [], ◌∷◌};
-ghost use Rattle.rds_abi.specs.Layout.{block_in_c, item_in_c, kind_in_c, no_block, offset_in_c, reading_in_c, soft_block_in_c, soft_item_in_c, soft_reading_in_c, totals_in_c, version_in_c};
-ghost use Rattle.rds_soft.specs.declared.soft_item.SoftItem.TheVariants.{Group as InSoft};
+ghost use Rattle.std.specs.Prelude.{◌≡◌};
+ghost use Rattle.rds_abi.specs.Layout.{block_in_c, group_in_c, item_in_c, kind_in_c, mark_in_c, offset_in_c, reading_in_c, soft_block_in_c, soft_item_in_c, soft_reading_in_c, totals_in_c, version_in_c};
 
 use crate::layout::{RdsBlock, RdsItem, RdsTotals};
 use rds_code::{Offset, Reading};
-use rds_soft::{SoftBlock, SoftGroup, SoftItem, SoftReading, mask_of};
-use rds_sync::{Block, Group, Item, Totals, Version};
+use rds_soft::{SoftBlock, SoftItem, SoftReading, mask_of};
+use rds_sync::{Block, Item, Totals, Version};
 
 /// Totals, for C.
 pub(crate) fn totals_in_c(totals: Totals) -> RdsTotals
@@ -104,36 +103,36 @@ pub(crate) fn item_in_c(item: Item) -> RdsItem
     ensures { result ≡ item_in_c item }
 {
     match item {
-        Item::Acquired { place, number } => RdsItem {
-            what: 1,
-            number,
-            ..nothing_at(place)
-        },
-        Item::Group(group) => group_in_c(group),
-        Item::LostLock { place } => RdsItem {
-            what: 3,
-            ..nothing_at(place)
-        },
+        Item::Acquired { place, number } => mark_in_c(place, 1, number),
+        Item::Group(group) => {
+            let [first, second, third, fourth] = group.blocks;
+            let blocks = [
+                block_in_c(first),
+                block_in_c(second),
+                block_in_c(third),
+                block_in_c(fourth),
+            ];
+            group_in_c(
+                group.place,
+                blocks,
+                group.kind,
+                group.version,
+                group.conflict,
+            )
+        }
+        Item::LostLock { place } => mark_in_c(place, 3, 0),
     }
 }
 
-/// An item of no kind at this place.
-fn nothing_at(place: u64) -> RdsItem
-    ensures { result ≡ record {
-      place = place;
-      blocks = no_block ∷ no_block ∷ no_block ∷ no_block ∷ [];
-      what = 0;
-      number = 0;
-      version = 0;
-      conflict = 0;
-      unused = 0;
-    } }
+/// An acquisition or a loss, for C.
+fn mark_in_c(place: u64, what: u8, number: u8) -> RdsItem
+    ensures { result ≡ mark_in_c place what number }
 {
     RdsItem {
         place,
         blocks: [RdsBlock::MISSING; 4],
-        what: 0,
-        number: 0,
+        what,
+        number,
         version: 0,
         conflict: 0,
         unused: 0,
@@ -141,22 +140,22 @@ fn nothing_at(place: u64) -> RdsItem
 }
 
 /// A group, for C.
-fn group_in_c(group: Group) -> RdsItem
-    ensures { result ≡ item_in_c (Item.Group group) }
+fn group_in_c(
+    place: u64,
+    blocks: [RdsBlock; 4],
+    kind: Option<u8>,
+    version: Version,
+    conflict: bool,
+) -> RdsItem
+    ensures { result ≡ group_in_c place blocks kind version conflict }
 {
-    let [first, second, third, fourth] = group.blocks;
     RdsItem {
-        place: group.place,
-        blocks: [
-            block_in_c(first),
-            block_in_c(second),
-            block_in_c(third),
-            block_in_c(fourth),
-        ],
+        place,
+        blocks,
         what: 2,
-        number: kind_in_c(group.kind),
-        version: version_in_c(group.version),
-        conflict: u8::from(group.conflict),
+        number: kind_in_c(kind),
+        version: version_in_c(version),
+        conflict: u8::from(conflict),
         unused: 0,
     }
 }
@@ -196,29 +195,23 @@ pub(crate) fn soft_item_in_c(item: SoftItem) -> RdsItem
     ensures { result ≡ soft_item_in_c item }
 {
     match item {
-        SoftItem::Acquired { place, number } => item_in_c(Item::Acquired { place, number }),
-        SoftItem::Group(group) => soft_group_in_c(group),
-        SoftItem::LostLock { place } => item_in_c(Item::LostLock { place }),
-    }
-}
-
-/// A group that was read again, for C.
-fn soft_group_in_c(again: SoftGroup) -> RdsItem
-    ensures { result ≡ soft_item_in_c (InSoft again) }
-{
-    let [one, two, three, four] = again.blocks;
-    RdsItem {
-        place: again.place,
-        blocks: [
-            soft_block_in_c(one),
-            soft_block_in_c(two),
-            soft_block_in_c(three),
-            soft_block_in_c(four),
-        ],
-        what: 2,
-        number: kind_in_c(again.kind),
-        version: version_in_c(again.version),
-        conflict: u8::from(again.conflict),
-        unused: 0,
+        SoftItem::Acquired { place, number } => mark_in_c(place, 1, number),
+        SoftItem::Group(again) => {
+            let [one, two, three, four] = again.blocks;
+            let blocks = [
+                soft_block_in_c(one),
+                soft_block_in_c(two),
+                soft_block_in_c(three),
+                soft_block_in_c(four),
+            ];
+            group_in_c(
+                again.place,
+                blocks,
+                again.kind,
+                again.version,
+                again.conflict,
+            )
+        }
+        SoftItem::LostLock { place } => mark_in_c(place, 3, 0),
     }
 }

@@ -1,13 +1,12 @@
-//! The part of a recording that a run over a range hears, and states in it.
+//! The part of a recording that a run over a range hears.
 
-ghost use Rattle.std.specs.Prelude.{◌≡◌, ◌+◌, ◌-◌, ◌*◌, ◌<◌, ◌≤◌, ◌^◌, ℕ, IfOk};
+ghost use Rattle.std.specs.Prelude.{◌≡◌, ◌-◌, ◌*◌, ◌<◌, ◌≤◌, ◌^◌, ℕ, IfOk};
 ghost use Rattle.rds_stream.specs.Recording.{AreGaps, length_of};
-ghost use Rattle.rds_live.specs.{Gaps.gaps_within as the_gaps_within, Gaps.part_of_gap as the_part_of_gap, Moving.IsPartHeard, Moving.moved_state, Places.is_due_below, Places.is_due_from};
+ghost use Rattle.rds_live.specs.{Gaps.gaps_within as the_gaps_within, Gaps.part_of_gap as the_part_of_gap, Moving.IsPartHeard};
 ghost use Rattle.rds_abi.specs.Asked.{IsRecording, gap_of, gaps_of, recording_of as the_recording_of};
 
 use crate::layout::RdsGap;
 use rds_stream::Recording;
-use rds_sync::{Lock, State};
 use std::alloc::{AllocError, Global};
 
 /// How many bits before a place a run may hear there: those of a partner's window, eight blocks back.
@@ -85,32 +84,4 @@ fn part_of_gap(before: u64, len: u64, gap: RdsGap) -> Option<(u64, u64)>
     let from = gap.begin.saturating_sub(before);
     let to = gap.end.saturating_sub(before).min(len);
     if from < to { Some((from, to)) } else { None }
-}
-
-/// The state, moved on by `by` places.
-pub(crate) fn moved_on(state: State, by: u64) -> State
-    requires { is_due_below (2 ^ 63) state × (by < 2 ^ 63) }
-    ensures { result ≡ moved_state by state }
-{
-    match state {
-        State::Searching => State::Searching,
-        State::Locked(lock) => State::Locked(Lock {
-            due: lock.due + by,
-            ..lock
-        }),
-    }
-}
-
-/// The state, moved back by `by` places.
-pub(crate) fn moved_back(state: State, by: u64) -> State
-    requires { is_due_from by state }
-    ensures { moved_state by result ≡ state }
-{
-    match state {
-        State::Searching => State::Searching,
-        State::Locked(lock) => State::Locked(Lock {
-            due: lock.due - by,
-            ..lock
-        }),
-    }
 }

@@ -2,19 +2,19 @@
 
 ghost use Rattle.std.specs.Prelude.{◌≡◌, ◌≢◌, ◌+◌, ◌-◌, ◌^◌, ◌<◌, ◌≤◌, ◌⊎◌, ◌↔◌, ℕ, true, All, IfErr, IfOk, IfSome, IsOkUnless, None, OnErr, OnOk, length, map};
 ghost use Rattle.rds_stream.specs.Recording.{length_of};
-ghost use Rattle.rds_sync.specs.{Advance.group_item, Lawful.IsLawful as IsLawfulState, Rules.RuleNumbers, declared.state.State.TheVariants.Searching, Step.items_of_end, Step.run as the_run};
+ghost use Rattle.rds_sync.specs.{Advance.group_item, Lawful.IsLawful as IsLawfulState, Rules.RuleNumbers, declared.state.State.TheVariants.Searching, Step.run as the_run};
 ghost use Rattle.rds_live.specs.{Moving.IsPartHeard, Moving.moved_item, Moving.moved_items, Moving.moved_state, Places.place_of};
-ghost use Rattle.rds_abi.specs.Ranges.{IsLeftState, IsRun, RefusesItemsAtEnd, RefusesItemsOfRun, RefusesRun, items_at_end, items_of_run, loss_in_c as the_loss_in_c, run_asked, run_from, searching_in_c, state_in_c as the_state_in_c, state_of as the_state_of};
+ghost use Rattle.rds_abi.specs.Ranges.{IsLeftState, IsRun, RefusesItemsAtEnd, RefusesItemsOfRun, RefusesRun, items_at_end, items_of_run, loss_in_c as the_loss_in_c, run_asked, run_from, state_in_c as the_state_in_c, state_of as the_state_of};
 ghost use Rattle.rds_abi.specs.{Asked.IsFilled, Asked.IsTooMuch, Asked.asked, Asked.recording_of as the_recording_of, Asked.rules_of as the_rules_of, declared.refusal.Refusal.TheVariants.OutOfMemory, declared.refusal.Refusal.TheVariants.PlaceRange, declared.refusal.Refusal.TheVariants.SmallRoom, declared.refusal.Refusal.TheVariants.UnlawfulState, Layout.item_in_c};
 
 use crate::asked::{refuse_recording, rules_of};
 use crate::in_c::item_in_c;
 use crate::layout::{RdsGap, RdsItem, RdsRules, RdsState};
-use crate::part::{Part, moved_back, moved_on, part_of};
+use crate::part::{Part, part_of};
 use crate::refusal::Refusal;
 use rds_live::laws::{ends_move, runs_move};
-use rds_stream::{Counted, MOST_BITS};
-use rds_sync::{Decoder, Group, Item, Lock, Loss, Rules, Spans, State, finish, laws, run_report};
+use rds_live::{moved_back, moved_end, moved_on};
+use rds_sync::{Decoder, Group, Item, Lock, Loss, Rules, Spans, State, laws, run_report};
 use std::alloc::Global;
 
 /// The lock that these numbers say, of a block that is known, or none if it is not lawful before `place`.
@@ -59,27 +59,16 @@ pub(crate) fn loss_in_c(loss: Loss) -> (u32, u32)
     }
 }
 
-/// A search, or none if its numbers are not all 0.
-fn search_of(s: RdsState) -> Option<State>
-    requires { s.number ≡ 0 }
-    ensures some { IfSome result (λ state. (state ≡ Searching) × (s ≡ searching_in_c)) }
-    ensures none { result ≡ None → s ≡ searching_in_c → ⊥ }
-{
-    if s == RdsState::SEARCHING {
-        Some(State::Searching)
-    } else {
-        None
-    }
-}
-
 /// The state that these numbers say, or none if no call can have left them before `place`.
 pub(crate) fn state_of(rules: &Rules, s: RdsState, place: u64) -> Option<State>
     ensures some { IfSome result (λ state. state ≡ the_state_of s) }
     ensures left { IfSome result (λ _. IsLeftState rules.now place s) }
     ensures none { result ≡ None → IsLeftState rules.now place s → ⊥ }
 {
-    if s.number == 0 {
-        search_of(s)
+    if s == RdsState::SEARCHING {
+        Some(State::Searching)
+    } else if s.number == 0 {
+        None
     } else {
         lock_of(rules, s, place)
     }
@@ -332,24 +321,7 @@ pub fn finish_run(
 {
     let start = start_of(alloc, bytes, bits, gaps, rules, (bits, bits), state)?;
     ends_move();
-    let group = end_of(&start);
+    let part = &start.part;
+    let group = moved_end(&part.recording, &start.rules, start.state, part.before);
     write_end(room, group, count)
-}
-
-/// The group in progress at the end of a recording, of which the start's part is the last.
-fn end_of(start: &Start) -> Option<Group>
-    requires begin { IsLawfulState start.now.rules (length_of start.now.part.recording) start.now.state }
-    requires limit { start.now.part.before ≤ 2 ^ 36 }
-    ensures { group_item result ≡ moved_items start.now.part.before
-        (items_of_end start.now.part.recording start.now.rules start.now.state) }
-{
-    let tape = &mut Counted::new(&start.part.recording);
-    prove!(start.part.recording.len() <= MOST_BITS);
-    match finish(tape, &start.rules, start.state) {
-        Some(group) => Some(Group {
-            place: group.place + start.part.before,
-            ..group
-        }),
-        None => None,
-    }
 }

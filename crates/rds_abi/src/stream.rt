@@ -1,10 +1,10 @@
 //! A stream that is followed chunk by chunk, from the numbers that the caller keeps of it.
 
-ghost use Rattle.std.specs.Prelude.{◌≡◌, ◌++◌, ◌<◌, ◌≤◌, ◌⊎◌, ◌↔◌, None, true, ◌+◌, ◌-◌, ◌*◌, ◌/◌, ◌^◌, ℕ, List, IfErr, IfOk, IfSome, OnErr, OnOk, drop, length, map, min, replicate, take, vec_capacity};
+ghost use Rattle.std.specs.Prelude.{◌≡◌, ◌++◌, ◌<◌, ◌≤◌, ◌⊎◌, ◌↔◌, true, ◌+◌, ◌-◌, ◌*◌, ◌/◌, ◌^◌, ℕ, List, IfErr, IfOk, OnErr, OnOk, length, map, min, replicate, take, vec_capacity};
 ghost use Rattle.rds_stream.specs.Recording.{AreGaps};
 ghost use Rattle.rds_sync.specs.{Advance.group_item, Totals.totals_of, Ranges.IsInRange};
 ghost use Rattle.rds_live.specs.{StreamDecoder.HasHeard, StreamDecoder.IsStreamDecoder, StreamDecoder.complete, StreamDecoder.most_kept, StreamDecoder.report_at, Next.completed, Next.live_next};
-ghost use Rattle.rds_abi.specs.Stream.{AreClosed, AreCompleted, AreLast, AreLeft, AreTooMany, AreTotals, AreTotalsAt, AreWritten, GoesOn, HearsOn, IsFollowed, IsLaid, IsLeft, IsMostTaken, IsNamed, IsNear, RefusesClosed, RefusesFollowed, RefusesLast, RefusesLeft, RefusesOn, RefusesStream, RefusesTaken, RefusesTold, items_after, place_after, rules_in_c as the_rules_in_c, stream_in_c as the_stream_in_c, stream_of as the_stream_of, terms_of, totals_from_c, unheard};
+ghost use Rattle.rds_abi.specs.Stream.{AreClosed, AreCompleted, AreLast, AreLeft, AreTotals, AreTotalsAt, AreWritten, GoesOn, HearsOn, IsFollowed, IsLaid, IsLeft, IsMostTaken, IsNamed, IsNear, RefusesClosed, RefusesFollowed, RefusesLast, RefusesLeft, RefusesOn, RefusesStream, RefusesTaken, RefusesTold, items_after, place_after, rules_in_c as the_rules_in_c, stream_in_c as the_stream_in_c, stream_of as the_stream_of, terms_of, totals_from_c, unheard};
 ghost use Rattle.rds_abi.specs.{Asked.AreGiven, Asked.IsFilled, Asked.gaps_of, Asked.rules_of as the_rules_of, Layout.item_in_c, Layout.totals_in_c, declared.refusal.Refusal.TheVariants.BitsPastBytes, declared.refusal.Refusal.TheVariants.OutOfMemory, declared.refusal.Refusal.TheVariants.SmallRoom, declared.refusal.Refusal.TheVariants.TooLong};
 
 use crate::asked::{gaps_in, refuse_gaps, rules_of};
@@ -380,35 +380,6 @@ struct Fit {
     count: usize,
 }
 
-impl Fit {
-    /// The bytes that were not taken, if there are any.
-    fn rest_of(self, bytes: &[u8]) -> Option<&[u8]>
-        requires { self.taken ≤ length bytes.now }
-        ensures rest { IfSome result (λ rest. rest.now ≡ drop self.taken bytes.now) }
-        ensures some { IfSome result (λ rest. self.taken < length bytes.now) }
-        ensures none { result ≡ None → self.taken ≡ length bytes.now }
-    {
-        if self.taken < bytes.len() {
-            Some(&bytes[self.taken..])
-        } else {
-            None
-        }
-    }
-
-    /// The bytes and the items of both.
-    fn plus(self, more: Fit) -> Fit
-        requires taken { self.taken + more.taken < 2 ^ 64 }
-        requires count { self.count + more.count < 2 ^ 64 }
-        ensures taken { result.taken ≡ self.taken + more.taken }
-        ensures count { result.count ≡ self.count + more.count }
-    {
-        Fit {
-            taken: self.taken + more.taken,
-            count: self.count + more.count,
-        }
-    }
-}
-
 /// Has the decoder take as many of the next bytes as there is room for the items that they complete, and writes the items, and the stream
 /// after them. Refuses if the items of the first byte do not fit, and tells how many they are.
 fn take_fitting(
@@ -439,10 +410,14 @@ fn take_fitting(
 {
     pieces_join();
     let mut fit = take_piece(live, rules, bytes, stream, room, some)?;
-    while let Some(rest) = fit.rest_of(bytes) {
+    while fit.taken < bytes.len() {
+        let rest = &bytes[fit.taken..];
         let free = &mut room[fit.count..];
         match take_piece(live, rules, rest, stream, free, some) {
-            Ok(more) => fit = fit.plus(more),
+            Ok(more) => {
+                fit.taken += more.taken;
+                fit.count += more.count;
+            }
             Err(_) => return Ok(fit),
         }
     }
@@ -484,39 +459,16 @@ fn take_piece(
     let piece = &bytes[..bytes.len().min(most)];
     match live.take(piece, some) {
         Ok(taken) => {
-            let count = write_taken(live, rules, some, stream, room)?;
+            let count = some.len();
+            if room.len() < count {
+                return Err(count);
+            }
+            fill_room(room, some);
+            *stream = stream_in_c(rules, live);
             Ok(Fit { taken, count })
         }
         Err(_) => unreachable!(),
     }
-}
-
-/// Writes the items, and the stream that the decoder has after them. Refuses if they do not fit. Either way it tells how many they are.
-fn write_taken(
-    live: &StreamDecoder<'_>,
-    rules: &Rules,
-    items: &[Item],
-    stream: &mut RdsStream,
-    room: &mut [RdsItem],
-) -> Result<usize, usize>
-    requires { live.now.terms.rules ≡ rules.now }
-    ensures laid { OnOk result (stream.new ≡ the_stream_in_c live.now) }
-    ensures says { OnOk result (the_stream_of live.now.terms stream.new ≡ live.now) }
-    ensures live { OnOk result (IsStreamDecoder live.now) }
-    ensures filled { OnOk result (IsFilled (map item_in_c items.now) room.old room.new) }
-    ensures count { IfOk result (λ count. count ≡ length items.now) }
-    ensures room { OnOk result (length items.now ≤ length room.old) }
-    ensures small { OnErr result (length room.old < length items.now) }
-    ensures needed { IfErr result (λ needed. needed ≡ length items.now) }
-    ensures untouched { OnErr result ((room.new ≡ room.old) × (stream.new ≡ stream.old)) }
-{
-    let count = items.len();
-    if room.len() < count {
-        return Err(count);
-    }
-    fill_room(room, items);
-    *stream = stream_in_c(rules, live);
-    Ok(count)
 }
 
 /// Ends a stream: writes the group in progress, as far as it was read, to the beginning of `room`, and to `count` how many groups these
@@ -540,28 +492,7 @@ pub fn finish(
     ensures refused { IfErr result (RefusesClosed rules gaps.now stream.now (length room.old) count.old count.new) }
 {
     let told = told_of(alloc, rules, gaps)?;
-    close(alloc, &told, stream, room, count, totals)
-}
-
-/// Ends a stream, and writes the group in progress and the totals.
-fn close(
-    alloc: Global,
-    told: &StreamTerms,
-    stream: &RdsStream,
-    room: &mut [RdsItem],
-    count: &mut u64,
-    totals: &mut RdsTotals,
-) -> Result<(), Refusal>
-    requires { AreGaps (2 ^ 36) told.now.gaps }
-    ensures items { OnOk result (AreWritten (AreClosed told.now stream.now) room.old room.new count.new) }
-    ensures totals { OnOk result (AreTotals told.now stream.now totals.new) }
-    ensures lawful { OnOk result (IsLeft told.now stream.now) }
-    ensures untouched { OnErr result ((room.new ≡ room.old) × (totals.new ≡ totals.old)) }
-    ensures refused { IfErr result (λ refusal. (IsLeft told.now stream.now
-        × AreTooMany (AreClosed told.now stream.now) (length room.old) refusal count.new)
-        ⊎ (RefusesStream told.now stream.now refusal × (count.new ≡ count.old))) }
-{
-    let live = live_of(alloc, told, stream)?;
+    let live = live_of(alloc, &told, stream)?;
     let end = live.finish();
     write_end(room, end.group, count)?;
     *totals = totals_in_c(end.totals);
@@ -608,44 +539,25 @@ pub fn finish_with(
         (RefusesLeft rules gaps.now stream.now bytes.now bits (length room.old) count.old count.new) }
 {
     let told = told_of(alloc, rules, gaps)?;
-    let (items, found) = last_of(alloc, &told, bytes, bits, stream)?;
-    write_items(room, &items, count)?;
-    *totals = totals_in_c(found);
-    Ok(())
-}
-
-/// The items that these bits complete, then the group in progress, and the totals of the report.
-fn last_of(
-    alloc: Global,
-    told: &StreamTerms,
-    bytes: &[u8],
-    bits: u64,
-    stream: &RdsStream,
-) -> Result<(Vec<Item>, Totals), Refusal>
-    requires { AreGaps (2 ^ 36) told.now.gaps }
-    ensures items { IfOk result (λ r. AreLeft told.now stream.now bytes.now bits r.0.items) }
-    ensures totals { IfOk result (λ r. (before : List ℕ) → HasHeard (the_stream_of told.now stream.now) before
-        → r.1 ≡ totals_of (report_at told.now (before ++ bytes.now) (8 * length before + bits))) }
-    ensures lawful { IfOk result (λ _. IsLeft told.now stream.now × AreLast stream.now bytes.now bits) }
-    ensures refused { IfErr result (λ refusal. RefusesStream told.now stream.now refusal
-        ⊎ (IsLeft told.now stream.now × RefusesLast stream.now bytes.now bits refusal)) }
-{
-    let live = live_of(alloc, told, stream)?;
-    refuse_last(live.place(), bytes, bits)?;
+    let live = live_of(alloc, &told, stream)?;
+    refuse_last(stream, bytes, bits)?;
     match end_of_stream(alloc, live, bytes, bits) {
-        Ok(left) => Ok(left),
+        Ok((items, found)) => {
+            write_items(room, &items, count)?;
+            *totals = totals_in_c(found);
+            Ok(())
+        }
         Err(_) => Err(Refusal::OutOfMemory),
     }
 }
 
 /// Refuses bits with which a stream would be too long, and then more than the bytes have.
-fn refuse_last(place: u64, bytes: &[u8], bits: u64) -> Result<(), Refusal>
-    requires { place ≤ 2 ^ 36 }
-    ensures fits { OnOk result ((place + bits ≤ 2 ^ 36) × (bits ≤ 8 * length bytes.now)) }
-    ensures refused { IfErr result (λ refusal. ((refusal ≡ TooLong) × (2 ^ 36 < place + bits))
-        ⊎ ((refusal ≡ BitsPastBytes) × (place + bits ≤ 2 ^ 36) × (8 * length bytes.now < bits))) }
+fn refuse_last(stream: &RdsStream, bytes: &[u8], bits: u64) -> Result<(), Refusal>
+    requires { stream.now.place ≤ 2 ^ 36 }
+    ensures last { OnOk result (AreLast stream.now bytes.now bits) }
+    ensures refused { IfErr result (RefusesLast stream.now bytes.now bits) }
 {
-    if bits > MOST_BITS - place {
+    if bits > MOST_BITS - stream.place {
         return Err(Refusal::TooLong);
     }
     if bits.div_ceil(8) > bytes.len() as u64 {
@@ -672,31 +584,9 @@ fn end_of_stream(
     let mut last = Vec::with_capacity(alloc, ITEMS_A_BYTE)?;
     let (whole, rest) = bytes.split_at((bits / 8) as usize);
     let mut items = live.take_all(alloc, whole)?;
-    let totals = push_last(live, rest, bits % 8, &mut last, &mut items)?;
-    Ok((items, totals))
-}
-
-/// Appends the items that the next `bits` bits complete, and the group in progress if the stream ends there.
-/// The totals of the report. `last` is room for the last items.
-fn push_last(
-    live: StreamDecoder<'_>,
-    rest: &[u8],
-    bits: u64,
-    last: &mut Vec<Item>,
-    items: &mut Vec<Item>,
-) -> Result<Totals, RdsError>
-    requires held { bits ≤ 8 * length rest.now }
-    requires few { bits ≤ 8 }
-    requires room { 16 ≤ vec_capacity last.old }
-    ensures items { OnOk result ((before : List ℕ) (given : List Item) → HasHeard live.entry before
-        → complete live.entry.terms before ≡ given ++ items.old.items → given ++ items.new.items
-        ≡ report_at live.entry.terms (before ++ rest.now) (8 * length before + bits)) }
-    ensures totals { IfOk result (λ totals. (before : List ℕ) → HasHeard live.entry before
-        → totals ≡ totals_of (report_at live.entry.terms (before ++ rest.now) (8 * length before + bits))) }
-{
-    let end = live.finish_with(rest, bits, last)?;
-    push_end(items, last, end.group)?;
-    Ok(end.totals)
+    let end = live.finish_with(rest, bits % 8, &mut last)?;
+    push_end(&mut items, &last, end.group)?;
+    Ok((items, end.totals))
 }
 
 /// Appends the last items to the others, and then the group in progress, if there is one.

@@ -17,8 +17,5 @@ pub lists-still : (row : Item → List ℕ) (lister : ListerOf) → live_next li
 lists-still row lister still none = grind (arith, common_steps, append-nil, completed)
 
 -- of an answer that is no error
-pub on-ok : {T E : Type 0} {P Q : T → Type 0} (r : Result T E) → ((x : T) → P x → Q x) → IfOk r P → IfOk r Q
-on-ok r more p = grind (arith, common_steps)
-
 pub on-ok-both : {T E : Type 0} {P Q S : T → Type 0} (r : Result T E) → ((x : T) → P x → Q x → S x) → IfOk r P → IfOk r Q → IfOk r S
 on-ok-both r more p q = grind (arith, common_steps)

@@ -1,8 +1,8 @@
--- Items that are moved one by one, in their place.
+-- Elements of a list that are written one by one, in their place.
 use Rattle.rds_live.proofs.Names.{common_steps, ◌≡◌, ◌+◌, ◌<◌, ℕ, List, arith, drop, get_or, length, map, set, take, take-set_at, take_at_read, drop-drop, drop-set-lt, get_or-drop, map-append}
 
 -- one more is changed after those before it
-pub one-changed : {A : Type 0} (f : A → A) (old now : List A) (i : ℕ) (none : A) → i < length old → i < length now
+pub one-changed : {A B : Type 0} (f : A → B) (old : List A) (now : List B) (i : ℕ) (none : A) → i < length old → i < length now
     → take i now ≡ map f (take i old) → take (i + 1) (set now i (f (get_or old i none))) ≡ map f (take (i + 1) old)
 one-changed f old now i none within fits before = grind (arith, common_steps, take-set_at, take_at_read, map-append, set)
 

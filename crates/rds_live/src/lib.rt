@@ -44,7 +44,7 @@
 //!   length, and [`StreamCounter::into_decoder`] is the decoder that has heard them all.
 //! - [`may_have_gaps`]: the test of gaps that these make.
 //! - [`run_part`], [`finish_part`], [`gaps_of_part`]: the run over a part of a stream that its caller makes, for one whose bits don't come
-//!   in bytes.
+//!   in bytes. [`moved_on`], [`moved_back`], [`moved_end`]: a state, and the group in progress, by places counted from elsewhere.
 //! - [`laws`]: a run depends only on the bits heard, and bytes in two pieces give the same as at once.
 //!
 //! # What callers may rely on
@@ -91,7 +91,8 @@ mod error; // Why a decoder that was kept as numbers is refused.
 pub use error::ResumeError;
 pub use gaps::may_have_gaps;
 pub use item_rows::ItemRows;
-pub use part::{finish_part, gaps_of_part, run_part};
+pub use moved::{moved_back, moved_on};
+pub use part::{finish_part, gaps_of_part, moved_end, run_part};
 pub use stream_counter::StreamCounter;
 pub use stream_decoder::{MOST_ITEMS, StreamDecoder, StreamEnd};
 pub use stream_lister::StreamLister;

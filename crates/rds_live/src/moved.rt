@@ -39,7 +39,7 @@ pub(crate) fn moved_group(group: Group, by: u64) -> Group
 }
 
 /// The state, moved on by `by` places.
-pub(crate) fn moved_on(state: State, by: u64) -> State
+pub fn moved_on(state: State, by: u64) -> State
     requires { is_due_below (2 ^ 63) state × (by < 2 ^ 63) }
     ensures { result ≡ moved_state by state }
 {
@@ -53,7 +53,7 @@ pub(crate) fn moved_on(state: State, by: u64) -> State
 }
 
 /// The state, moved back by `by` places.
-pub(crate) fn moved_back(state: State, by: u64) -> State
+pub fn moved_back(state: State, by: u64) -> State
     requires { is_due_from by state }
     ensures value { result ≡ the_moved_back by state }
     ensures back { moved_state by result ≡ state }

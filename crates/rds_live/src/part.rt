@@ -3,12 +3,12 @@
 ghost use Rattle.std.specs.Prelude.{◌≡◌, ◌≤◌, ◌-◌, ◌+◌, ◌*◌, ◌^◌, ◌⊎◌, IfOk, vec_capacity};
 ghost use Rattle.rds_stream.specs.Recording.{AreGaps, length_of};
 ghost use Rattle.rds_sync.specs.{Advance.group_item, Lawful.IsLawful, Step.items_of_end, Step.run};
-ghost use Rattle.rds_live.specs.{Gaps.gaps_within, Moving.most_behind, Moving.moved_state, Next.moved_back as the_moved_back};
+ghost use Rattle.rds_live.specs.{Gaps.gaps_within, Moving.most_behind, Moving.moved_items, Moving.moved_state, Next.moved_back as the_moved_back};
 
 use crate::gaps::fill_gaps;
-use crate::moved::{moved_back, moved_on};
+use crate::moved::{moved_back, moved_group, moved_on};
 use crate::stream_decoder::fill_from;
-use rds_stream::{Counted, Recording};
+use rds_stream::{Counted, MOST_BITS, Recording};
 use rds_sync::{Group, Item, Rules, State, finish};
 use std::alloc::{AllocError, Global};
 
@@ -67,4 +67,18 @@ pub fn finish_part(part: &Recording, before: u64, rules: &Rules, state: State) -
     ensures { group_item result ≡ items_of_end part.now rules.now (the_moved_back before state) }
 {
     finish(&mut Counted::new(part), rules, moved_back(state, before))
+}
+
+/// The group in progress at the end of a part of a stream, in this state, which has its places in the part. The group is moved on by
+/// `by` places.
+pub fn moved_end(part: &Recording, rules: &Rules, state: State, by: u64) -> Option<Group>
+    requires lawful { IsLawful rules.now (length_of part.now) state }
+    requires limit { by ≤ 2 ^ 36 }
+    ensures { group_item result ≡ moved_items by (items_of_end part.now rules.now state) }
+{
+    prove!(part.len() <= MOST_BITS);
+    match finish(&mut Counted::new(part), rules, state) {
+        Some(group) => Some(moved_group(group, by)),
+        None => None,
+    }
 }

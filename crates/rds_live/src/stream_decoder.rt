@@ -1,20 +1,21 @@
 //! The decoder of a stream.
 
-ghost use Rattle.std.specs.Prelude.{◌≡◌, ◌≤◌, ◌<◌, ◌↔◌, ◌-◌, ◌+◌, ◌*◌, ◌/◌, ◌^◌, ◌++◌, ◌⊎◌, min, All, List, ℕ, [], drop, length, take, vec_capacity, IfOk, IfErr, IsErrOf, IsOk, IsOkUnless, OnErr, OnOk, true};
+ghost use Rattle.std.specs.Prelude.{◌≡◌, ◌≤◌, ◌<◌, ◌↔◌, ◌-◌, ◌+◌, ◌*◌, ◌/◌, ◌^◌, ◌++◌, ◌⊎◌, min, All, List, ℕ, [], length, take, vec_capacity, IfOk, IfErr, IsErrOf, IsOk, IsOkUnless, OnErr, OnOk, true};
 ghost use Rattle.rds_stream.specs.Recording.{AreGaps, length_of};
-ghost use Rattle.rds_sync.specs.{Advance.group_item, Counting.IsAtMost, Counting.plus, Lawful.IsLawful, Ranges.IsInRange, Step.run, Step.items_of_end, Totals.totals_of};
+ghost use Rattle.rds_sync.specs.{Advance.group_item, Counting.IsAtMost, Counting.plus, Lawful.IsLawful, Ranges.IsInRange, Step.run, Totals.totals_of};
 ghost use Rattle.rds_live.specs.StreamDecoder.{HasHeard, IsStreamDecoder, Terms, by_rules, complete, last_bytes, live_of, live_with, most_counted, most_kept, report_at, report_of, signal_of};
-ghost use Rattle.rds_live.specs.{Next.IsStart, Next.IsWithin, Next.completed, Next.group_next, Next.guessed, Next.items_next, Next.live_next, Moving.moved_items, Places.place_of, Room.slots_of, Keeping.IsKept, Keeping.live_kept};
+ghost use Rattle.rds_live.specs.{Next.IsStart, Next.IsWithin, Next.completed, Next.group_next, Next.guessed, Next.items_next, Next.live_next, Places.place_of, Room.slots_of, Keeping.IsKept, Keeping.live_kept};
 
 use crate::error::ResumeError;
 use crate::gaps::may_have_gaps;
 use crate::kept::{Kept, MOST_KEPT, Start, can_be_live};
 use crate::laws::{ends_are_reports, next_is_heard, pieces_join, runs_move};
-use crate::moved::{move_on, moved_back, moved_group, moved_on};
+use crate::moved::{move_on, moved_back, moved_on};
+use crate::part::moved_end;
 use crate::room::{AT_ONCE, Room};
 use rds_code::RdsError;
-use rds_stream::{Counted, MOST_BITS, Recording, are_gaps};
-use rds_sync::{Decoder, Group, Item, Rules, State, Totals, finish, laws, run_totals};
+use rds_stream::{MOST_BITS, Recording, are_gaps};
+use rds_sync::{Decoder, Group, Item, Rules, State, Totals, laws, run_totals};
 use std::alloc::{AllocError, Global};
 use std::marker::Model;
 
@@ -23,8 +24,6 @@ const ITEMS_A_BYTE: usize = 16;
 
 /// Room for as many items as [`StreamDecoder::take`] completes at once, whatever it is handed.
 pub const MOST_ITEMS: usize = AT_ONCE * ITEMS_A_BYTE;
-
-const NO_GAPS: &[(u64, u64)] = &[];
 
 /// A decoder of a stream of bits, which takes them as they come: this project's rule.
 ///
@@ -82,7 +81,7 @@ impl<'r> StreamDecoder<'r> {
         ensures live { IfOk result (λ live. live ≡ live_of (by_rules rules.now) []) }
         ensures only_memory { IsOkUnless result RdsError.OutOfMemory }
     {
-        Ok(StreamDecoder::start(alloc, rules, NO_GAPS)?)
+        StreamDecoder::with_gaps(alloc, rules, &[])
     }
 
     /// A decoder that has heard nothing yet, of a stream with these gaps: each is the places from its first number to before
@@ -104,27 +103,8 @@ impl<'r> StreamDecoder<'r> {
         if !may_have_gaps(gaps) {
             return Err(RdsError::BadGaps);
         }
-        Ok(StreamDecoder::start(alloc, rules, gaps)?)
-    }
-
-    /// A decoder that has heard nothing yet.
-    fn start(
-        alloc: Global,
-        rules: &'r Rules,
-        gaps: &'r [(u64, u64)],
-    ) -> Result<StreamDecoder<'r>, AllocError>
-        requires { AreGaps (2 ^ 36) gaps.now }
-        ensures { IfOk result (λ live. live ≡ live_of (record { rules = rules.now; gaps = gaps.now }) []) }
-    {
-        let room = Room::new(alloc, gaps.len())?;
-        Ok(StreamDecoder {
-            rules,
-            gaps,
-            room,
-            place: 0,
-            state: State::Searching,
-            totals: Totals::NONE,
-        })
+        let (search, none) = (State::Searching, Totals::NONE);
+        Ok(StreamDecoder::of(alloc, rules, gaps, &[], 0, search, none)?)
     }
 
     /// The decoder that has these gaps, and of the bits before `place` this [`tail`](StreamDecoder::tail), [`state`](StreamDecoder::state)
@@ -329,7 +309,7 @@ impl<'r> StreamDecoder<'r> {
     }
 
     /// Takes as many of these bytes as are decoded at once, and gives the items that they complete in place of those of `items`.
-    fn take_part(&mut self, bytes: &[u8], items: &mut Vec<Item>)
+    pub(crate) fn take_part(&mut self, bytes: &[u8], items: &mut Vec<Item>)
         requires few { length bytes.now ≤ 960 }
         requires room { 16 * length bytes.now ≤ vec_capacity items.old }
         requires fits { self.old.place + 8 * length bytes.now ≤ 2 ^ 36 }
@@ -465,7 +445,8 @@ impl<'r> StreamDecoder<'r> {
         ensures known { live_next self.now [] ≡ self.now }
         ensures none { completed self.now [] ≡ [] }
     {
-        no_items_count(&self.totals);
+        let bursts: &[u64] = &self.totals.bursts;
+        prove!(bursts.len() == 5);
     }
 
     /// Its numbers, without its terms.
@@ -594,43 +575,17 @@ fn decode_bytes(
 {
     let mut some = Vec::with_capacity(alloc, ITEMS_A_BYTE * bytes.len().min(AT_ONCE))?;
     let mut items = Vec::new(alloc);
+    pieces_join();
     let mut rest = bytes;
     while !rest.is_empty() {
-        let count = take_next(live, rest, &mut some, &mut items)?;
-        rest = &rest[count..];
+        let (part, others) = rest.split_at(rest.len().min(AT_ONCE));
+        live.is_known();
+        live.take_part(part, &mut some);
+        items.extend_from_slice(&some)?;
+        rest = others;
     }
     live.is_still();
     Ok(items)
-}
-
-/// Has the decoder take as many of these bytes as it can at once, and appends the items that they complete to
-/// those before. Answers how many bytes these were.
-fn take_next(
-    live: &mut StreamDecoder<'_>,
-    bytes: &[u8],
-    some: &mut Vec<Item>,
-    items: &mut Vec<Item>,
-) -> Result<usize, AllocError>
-    requires some { 0 < length bytes.now }
-    requires room { 16 ≤ vec_capacity some.old }
-    requires fits { live.old.place + 8 * length bytes.now ≤ 2 ^ 36 }
-    ensures some { IfOk result (λ count. (0 < count) × (count ≤ length bytes.now)) }
-    ensures terms { live.new.terms ≡ live.old.terms }
-    ensures next { IfOk result (λ count. live_next live.new (drop count bytes.now)
-        ≡ live_next live.old bytes.now) }
-    ensures completed { IfOk result (λ count. items.new.items ++ completed live.new (drop count bytes.now)
-        ≡ items.old.items ++ completed live.old bytes.now) }
-    ensures room { vec_capacity some.new ≡ vec_capacity some.old }
-{
-    pieces_join();
-    live.is_known();
-    match live.take(bytes, some) {
-        Ok(count) => {
-            items.extend_from_slice(some)?;
-            Ok(count)
-        }
-        Err(_) => unreachable!(),
-    }
 }
 
 /// Gives the items of the run from `state` over the bits at `from` to `to` - 1, in place of those of `items`, which has room
@@ -669,35 +624,7 @@ fn stream_end_of(totals: Totals, group: Option<Group>) -> StreamEnd
     ensures group { result.group ≡ group }
     ensures totals { result.totals ≡ plus totals (totals_of (group_item group)) }
 {
-    let totals = totals.plus(totals_of_end(&group));
+    let closed = &group;
+    let totals = totals.plus(Totals::of_end(*closed));
     StreamEnd { group, totals }
-}
-
-/// No items count nothing.
-fn no_items_count(totals: &Totals)
-    ensures { plus totals.now (totals_of []) ≡ totals.now }
-{
-    let bursts: &[u64] = &totals.bursts;
-    prove!(bursts.len() == 5);
-}
-
-/// The totals of the group in progress.
-fn totals_of_end(group: &Option<Group>) -> Totals
-    ensures value { result ≡ totals_of (group_item group.now) }
-    ensures small { IsAtMost (2 ^ 10) result }
-{
-    Totals::of_end(*group)
-}
-
-/// The group in progress at the end of a recording, in this state, moved on by `by` places.
-fn moved_end(part: &Recording, rules: &Rules, state: State, by: u64) -> Option<Group>
-    requires lawful { IsLawful rules.now (length_of part.now) state }
-    requires limit { by ≤ 2 ^ 36 }
-    ensures { group_item result ≡ moved_items by (items_of_end part.now rules.now state) }
-{
-    prove!(part.len() <= MOST_BITS);
-    match finish(&mut Counted::new(part), rules, state) {
-        Some(group) => Some(moved_group(group, by)),
-        None => None,
-    }
 }

@@ -1,5 +1,5 @@
 //! A stream that is listed by several workers.
-ghost use Rattle.std.specs.Prelude.{◌≡◌, ◌≤◌, ◌<◌, ◌↔◌, ◌+◌, ◌*◌, ◌^◌, ◌++◌, ◌⊎◌, List, ℕ, length, take, IfErr, IfOk, IsErrOf, OnOk};
+ghost use Rattle.std.specs.Prelude.{◌≡◌, ◌≤◌, ◌<◌, ◌↔◌, ◌+◌, ◌*◌, ◌^◌, ◌++◌, ◌⊎◌, List, ℕ, length, IfErr, IfOk, IsErrOf, OnOk};
 ghost use Rattle.std.specs.List.{flat_map};
 ghost use Rattle.rds_sync.specs.{Counting.IsAtMost, Ranges.IsInRange, declared.item.Item.Item};
 ghost use Rattle.rds_live.specs.{StreamDecoder.HasHeard, StreamDecoder.IsStreamDecoder, StreamDecoder.complete, StreamDecoder.most_counted, Listing.IsListed, Listing.lister_next, Listing.lister_of, Next.IsWithin, Next.guessed, Next.live_next};
@@ -8,6 +8,7 @@ use crate::StreamDecoder;
 use crate::item_rows::ItemRows;
 use crate::laws::{next_is_heard, pieces_join};
 use crate::listed_halves::list_by;
+use crate::room::AT_ONCE;
 use crate::stream_decoder::MOST_ITEMS;
 use rds_code::RdsError;
 use rds_stream::MOST_BITS;
@@ -35,7 +36,7 @@ impl<'r, T: ItemRows> Model for StreamLister<'r, T> {
 
     ghost view = { λ l. record { live = l.live; rows = T.rows l.rows } };
 
-    ghost invariant = { λ l. 16 ≤ vec_capacity l.items };
+    ghost invariant = { λ l. 15360 ≤ vec_capacity l.items };
 }
 
 impl<'r, T: ItemRows> StreamLister<'r, T> {
@@ -146,32 +147,18 @@ impl<'r, T: ItemRows> StreamLister<'r, T> {
         ensures { IfOk result (IsListed T.row_of self.entry bytes.now) }
     {
         pieces_join();
-        let mut lister = self;
+        let StreamLister { live, items, rows } = self;
+        let (mut live, mut items, mut rows) = (live, items, rows);
         let mut rest = bytes;
         while !rest.is_empty() {
-            lister.is_known();
-            let count = lister.list_some(rest)?;
-            rest = &rest[count..];
+            let (part, others) = rest.split_at(rest.len().min(AT_ONCE));
+            live.is_known();
+            live.take_part(part, &mut items);
+            rows.push_items(&items)?;
+            rest = others;
         }
-        lister.live.is_still();
-        Ok(lister)
-    }
-
-    /// Takes as many of these bytes as it can at once. Answers how many bytes these were.
-    fn list_some(&mut self, bytes: &[u8]) -> Result<usize, AllocError>
-        requires some { 0 < length bytes.now }
-        requires fits { self.old.live.place + 8 * length bytes.now ≤ 2 ^ 36 }
-        ensures some { IfOk result (λ count. (0 < count) × (count ≤ length bytes.now)) }
-        ensures next { IfOk result (λ count. self.new ≡ lister_next T.row_of self.old (take count bytes.now)) }
-        ensures small { IfOk result (λ count. IsWithin (8 * count) self.old.live.totals self.new.live.totals) }
-    {
-        match self.live.take(bytes, &mut self.items) {
-            Ok(count) => {
-                self.rows.push_items(self.items.as_slice())?;
-                Ok(count)
-            }
-            Err(_) => unreachable!(),
-        }
+        live.is_still();
+        Ok(StreamLister { live, items, rows })
     }
 
     /// A lister that searched after the bytes of `front`, and then heard the seam: its state is a guess.

@@ -2,8 +2,8 @@ use Rattle.rds_abi.proofs.Shared.{◌≡◌, ◌-◌, ℕ, List, ap, arith, inl,
 use Rattle.rds_abi.proofs.{PartRuns.end-asked, ranges.finish_run.Goals.After-write_end}
 use Rattle.rds_abi.proofs.ranges.finish_run.Goals as goal
 
-pub end_of-group-requires-clause-begin : goal.end_of-group-requires-clause-begin
-end_of-group-requires-clause-begin c =
+pub moved_end-group-requires-clause-lawful : goal.moved_end-group-requires-clause-lawful
+moved_end-group-requires-clause-lawful c =
     let s = c.in_ok-start.ensures in
     subst (λ (n : ℕ). IsLawful c.in_ok-start.start.rules n c.in_ok-start.start.state) (sym s.len) s.begin
 
@@ -11,15 +11,15 @@ module _ (c : After-write_end) where
   abbrev all : List Item
   all = items_of_end (recording_of c.args.bytes.now c.args.bits c.args.gaps.now) (rules_of c.args.rules) (state_of c.args.state)
 
-  found : group_item c.end_of-group.result ≡ all
+  found : group_item c.moved_end-group.result ≡ all
   found =
       let s = c.in_ok-start.ensures in
       let start = c.in_ok-start.start in
-      c.end_of-group.ensures
+      c.moved_end-group.ensures
       ∙ end-asked c.args.bytes.now c.args.bits c.args.gaps.now c.args.rules c.args.bits c.args.bits c.args.state start.part.recording start.rules start.part.before start.state
       s.rules s.begins s.len s.state s.begin (s.heard (c.args.bits - start.part.before) (omega arith)) s.lawful c.ends_move.ensures refl
 
-  many : length (map item_in_c all) ≡ length (group_item c.end_of-group.result)
+  many : length (map item_in_c all) ≡ length (group_item c.moved_end-group.result)
   many = length-map all item_in_c ∙ ap (λ (items : List Item). length items) (sym found)
 
 pub returns-clause-filled : goal.returns-clause-filled

@@ -1,8 +1,8 @@
 use Rattle.rds_abi.proofs.Shared.{length, ◌-◌, ◌≡◌, ◌<◌, ◌≤◌, map, take, vec_capacity, IsStreamDecoder, completed, live_next, IsFilled, stream_in_c, stream_of, item_in_c}
 use Rattle.rds_abi.proofs.stream.take_fitting.Given as goal
 
-abbrev pub invariant-loop-rest : goal.invariant-loop-rest
-invariant-loop-rest l = record {
+abbrev pub invariant-loop-fit : goal.invariant-loop-fit
+invariant-loop-fit l = record {
   within : l.fit.taken ≤ length l.bytes;
   some : 0 < length l.bytes → 0 < l.fit.taken;
   after : l.live ≡ live_next l.fn.live (take l.fit.taken l.bytes);
@@ -17,5 +17,5 @@ invariant-loop-rest l = record {
   capacity : 16 ≤ vec_capacity l.some;
 }
 
-abbrev pub decreases-loop-rest : goal.decreases-loop-rest
-decreases-loop-rest l = length l.bytes - l.fit.taken
+abbrev pub decreases-loop-fit : goal.decreases-loop-fit
+decreases-loop-fit l = length l.bytes - l.fit.taken

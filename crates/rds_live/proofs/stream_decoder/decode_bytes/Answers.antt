@@ -1,4 +1,4 @@
-use Rattle.rds_live.proofs.Names.{common_steps, ◌++◌, ◌∙◌, List, ap, arith, length, length-drop, sym, ℕ, append-nil, take_rest, Item, LiveOf, completed, live_next, eqb-true, nil_from_length}
+use Rattle.rds_live.proofs.Names.{common_steps, ◌≡◌, ◌++◌, ◌∙◌, List, ap, ap₂, append_assoc, arith, length, sym, ℕ, append-nil, length-append, Item, LiveOf, completed, live_next, eqb-true, nil_from_length}
 use Rattle.rds_live.proofs.stream_decoder.decode_bytes.Goals as goal
 
 pub loop-rest-init : goal.loop-rest-init
@@ -6,16 +6,26 @@ loop-rest-init c = grind (arith, common_steps, completed)
 
 pub loop-rest-preserved : goal.loop-rest-preserved
 loop-rest-preserved c =
-    let inv = c.loop-rest.invariant in
-    let is = take_rest c.loop-rest.rest.now c.in_ok-count.count in
-    let next = ap (λ (xs : List ℕ). live_next c.take_next.new.live xs) is ∙ c.in_ok-count.ensures.next ∙ inv.next in
+    let loop = c.loop-rest in
+    let inv = loop.invariant in
+    let part = c.split_at.result.0.now in
+    let others = c.split_at.result.1.now in
+    let parted : loop.rest.now ≡ part ++ others = c.split_at.ensures.by_index.0 in
+    let gone = c.take_part.ensures.next in
+    let pieces = c.pieces_join.ensures loop.live part others c.is_known.ensures.range c.is_known.ensures.live in
+    let next = ap (λ (l : LiveOf). live_next l others) gone ∙ pieces.0 ∙ ap (λ (xs : List ℕ). live_next loop.live xs) (sym parted) ∙ inv.next in
+    let some = c.deref.ensures.value ∙ c.take_part.ensures.completed in
     record {
-      terms = c.take_next.ensures.terms ∙ inv.terms;
+      terms = ap (λ (l : LiveOf). l.terms) gone ∙ inv.terms;
       next = next;
-      completed = ap (λ (xs : List ℕ). c.take_next.new.items.items ++ completed c.take_next.new.live xs) is ∙ c.in_ok-count.ensures.completed ∙ inv.completed;
+      completed = ap (λ (xs : List Item). xs ++ completed c.take_part.new.self others) c.in_ok-extend_from_slice.ensures.items
+          ∙ append_assoc loop.items.items c.deref.result.now (completed c.take_part.new.self others)
+          ∙ ap (λ (xs : List Item). loop.items.items ++ xs)
+          (ap₂ (λ (xs : List Item) (l : LiveOf). xs ++ completed l others) some gone ∙ pieces.1 ∙ ap (λ (xs : List ℕ). completed loop.live xs) (sym parted))
+          ∙ inv.completed;
       place = ap (λ (l : LiveOf). l.place) next;
-      few = omega (arith, ap length is, length-drop c.in_ok-count.count c.loop-rest.rest.now, inv.few);
-      room = omega (arith, c.take_next.ensures.room, inv.room);
+      few = omega (arith, ap length parted, length-append part others, inv.few);
+      room = omega (arith, c.take_part.ensures.room, inv.room);
     }
 
 pub returns-clause-next : goal.returns-clause-next

@@ -1,6 +1,6 @@
 use Rattle.rds_live.proofs.Names.{◌∙◌, arith, ap, sym, TapeState, group_item, items_of_end}
 use Rattle.rds_live.proofs.ItemPlaces.{group-soon}
-use Rattle.rds_live.proofs.stream_decoder.moved_end.Goals as goal
+use Rattle.rds_live.proofs.part.moved_end.Goals as goal
 
 pub moved_group-requires : goal.moved_group-requires
 moved_group-requires c =
