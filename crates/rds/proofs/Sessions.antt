@@ -4,7 +4,7 @@ use Rattle.std.specs.Prelude.{◌↔◌, IfErr, IfSome, IsErrOf, OnOk}
 use Rattle.rds_rows.specs.declared.sink.Sink.{Ghosts as Sink}
 use Rattle.rds_sync.specs.{Ranges.IsOfRules, Rules.RuleNumbers}
 use Rattle.rds_code.specs.declared.error.RdsError.{RdsError, TheVariants.BadGaps, TheVariants.BitsPastBytes, TheVariants.BurstRange, TheVariants.CrewRange, TheVariants.LossRange, TheVariants.OutOfMemory, TheVariants.ReachRange, TheVariants.Read, TheVariants.ShareRange, TheVariants.TooLong, TheVariants.Write}
-use Rattle.rds_tool.{specs.Following.BreaksOff, specs.Following.Follows, specs.Following.HasAll, specs.Following.MayBreakOff, specs.Following.Stream, specs.History.Gave, specs.Outcome.IsOutside, specs.Outcome.Writes, specs.Outcome.WritesPrefix, specs.Outcome.result_of_job, specs.Tasks.task_of, specs.Transcribed.IsTranscribed, specs.declared.devices.Source.Ghosts as Source, specs.declared.job.Job.Job, proofs.Followed.asked_still}
+use Rattle.rds_tool.{specs.Following.Follows, specs.Following.HasAll, specs.Following.MayBreakOff, specs.Following.Stream, specs.History.Gave, specs.Outcome.IsOutside, specs.Outcome.Writes, specs.Outcome.WritesPrefix, specs.Outcome.result_of_job, specs.Tasks.task_of, specs.Transcribed.IsTranscribed, specs.declared.devices.Source.Ghosts as Source, specs.declared.job.Job.Job, proofs.Followed.asked_still}
 use Rattle.rds.specs.Session.{BlamesDevices, IsDone, IsFollowed, RefusesRules, RefusesTerms, RefusesWorkers, stream_of}
 
 -- the bytes given are all bytes given since the reader was made
@@ -42,19 +42,13 @@ module _ {R W : Type 0} (source : Source R) (sink : Sink W) (job : Job) (reader 
   untouched_of (Err e) taken none took h = λ other. untouched_is taken none took (h other)
 
   -- a transcription between devices that were just made
-  job_done_at : IsTranscribed source sink job reader reader' writer writer' answer
+  pub job_done : IsTranscribed source sink job reader reader' writer writer' answer
       → source.given reader ≡ [] → source.failed reader ≡ 0 → sink.contents writer ≡ Some [] → sink.failed writer ≡ 0
       → (given' taken : List ℕ) → source.given reader' ≡ given' → sink.contents writer' ≡ Some taken
       → IsDone given' (source.has_ended reader') (source.failed reader') taken (sink.is_flushed writer') (sink.failed writer') answer job
-  job_done_at t fresh unfailed none sound given' taken gave took =
-      let heard : OnOk answer (Gave [] given' (λ bytes. Writes (Some []) (Some taken) (result_of_job job bytes))) =
-      subst (λ o. OnOk answer (Gave [] given' (λ bytes. Writes o (Some taken) (result_of_job job bytes)))) none
-      (subst (λ n. OnOk answer (Gave [] given' (λ bytes. Writes (sink.contents writer) n (result_of_job job bytes)))) took
-      (subst (λ g. OnOk answer (Gave [] g (λ bytes. Writes (sink.contents writer) (sink.contents writer') (result_of_job job bytes)))) gave
-      (subst (λ g. OnOk answer (Gave g (source.given reader') (λ bytes. Writes (sink.contents writer) (sink.contents writer') (result_of_job job bytes)))) fresh t.heard))) in
-      let kinds =
-      subst (λ g. IfErr answer (λ error. IsOutside error ⊎ Gave [] g (λ bytes. (result_of_job job bytes ≡ Err error) × ((task_of job ≡ Err error) ⊎ (source.has_ended reader' ≡ true))))) gave
-      (subst (λ g. IfErr answer (λ error. IsOutside error ⊎ Gave g (source.given reader') (λ bytes. (result_of_job job bytes ≡ Err error) × ((task_of job ≡ Err error) ⊎ (source.has_ended reader' ≡ true))))) fresh t.refused_by) in
+  job_done t fresh unfailed none sound given' taken gave took =
+      let heard = rw (fresh, none, gave, took) at t.heard in
+      let kinds = rw (fresh, gave) at t.refused_by in
       record {
         text = wrote_all answer job given' taken heard;
         end = t.ended;
@@ -63,35 +57,12 @@ module _ {R W : Type 0} (source : Source R) (sink : Sink W) (job : Job) (reader 
           read = subst (λ n. IsErrOf answer Read ↔ (n < source.failed reader')) unfailed t.read;
           write = subst (λ n. IsErrOf answer Write ↔ (n < sink.failed writer')) sound t.write;
         };
-        turns = λ p.
-            gave_all given' (λ bytes. 16777216 ≤ length bytes)
-            (subst (λ g. Gave [] g (λ bytes. 16777216 ≤ length bytes)) gave
-            (subst (λ g. Gave g (source.given reader') (λ bytes. 16777216 ≤ length bytes)) fresh (t.turned p)));
+        turns = λ p. gave_all given' (λ bytes. 16777216 ≤ length bytes) (rw (fresh, gave) at t.turned p);
         no_worker = t.no_worker;
         refused = refused_by answer job given' (source.has_ended reader') kinds;
         untouched = untouched_of answer taken none took t.untouched;
-        prefix = λ p.
-            let broke : Gave [] given' (λ bytes. WritesPrefix (Some []) (Some taken) (result_of_job job bytes)) =
-            subst (λ o. Gave [] given' (λ bytes. WritesPrefix o (Some taken) (result_of_job job bytes))) none
-            (subst (λ n. Gave [] given' (λ bytes. WritesPrefix (sink.contents writer) n (result_of_job job bytes))) took
-            (subst (λ g. Gave [] g (λ bytes. WritesPrefix (sink.contents writer) (sink.contents writer') (result_of_job job bytes))) gave
-            (subst (λ g. Gave g (source.given reader') (λ bytes. WritesPrefix (sink.contents writer) (sink.contents writer') (result_of_job job bytes))) fresh (t.broke_off p)))) in
-            prefix_of (result_of_job job given') taken (gave_all given' (λ bytes. WritesPrefix (Some []) (Some taken) (result_of_job job bytes)) broke);
+        prefix = λ p. prefix_of (result_of_job job given') taken (gave_all given' (λ bytes. WritesPrefix (Some []) (Some taken) (result_of_job job bytes)) (rw (fresh, none, gave, took) at t.broke_off p));
       }
-
-  -- and left as these
-  pub job_done : IsTranscribed source sink job reader reader' writer writer' answer
-      → source.given reader ≡ [] → source.failed reader ≡ 0 → sink.contents writer ≡ Some [] → sink.failed writer ≡ 0
-      → (given' : List ℕ) (ended : Bool) (reads : ℕ) (taken : List ℕ) (flushed : Bool) (writes : ℕ)
-      → source.given reader' ≡ given' → source.has_ended reader' ≡ ended → source.failed reader' ≡ reads
-      → sink.contents writer' ≡ Some taken → sink.is_flushed writer' ≡ flushed → sink.failed writer' ≡ writes
-      → IsDone given' ended reads taken flushed writes answer job
-  job_done t fresh unfailed none sound given' ended reads taken flushed writes gave done read took flush wrote =
-      subst (λ x. IsDone given' x reads taken flushed writes answer job) done
-      (subst (λ x. IsDone given' (source.has_ended reader') x taken flushed writes answer job) read
-      (subst (λ x. IsDone given' (source.has_ended reader') (source.failed reader') taken x writes answer job) flush
-      (subst (λ x. IsDone given' (source.has_ended reader') (source.failed reader') taken (sink.is_flushed writer') x answer job) wrote
-      (job_done_at t fresh unfailed none sound given' taken gave took))))
 
 -- a stream that was followed between devices that were just made
 module _ {R W : Type 0} (source : Source R) (sink : Sink W) (s : Stream) (rules : RuleNumbers) (workers : ℕ) (reader reader' : R) (writer writer' : W) where
@@ -123,9 +94,7 @@ module _ {R W : Type 0} (source : Source R) (sink : Sink W) (s : Stream) (rules 
     flush = tt;
     devices = blames (Err e) f unfailed sound;
     refused = inl f.refused;
-    broke_off = subst (λ g. BreaksOff s g (source.given reader') (source.has_ended reader') (Some []) (Some taken) (sink.is_flushed writer') e) fresh
-        (subst (λ o. BreaksOff s (source.given reader) (source.given reader') (source.has_ended reader') o (Some taken) (sink.is_flushed writer') e) none
-        (subst (λ n. BreaksOff s (source.given reader) (source.given reader') (source.has_ended reader') (sink.contents writer) n (sink.is_flushed writer') e) took f.broke_off));
+    broke_off = rw (fresh, none, took) at f.broke_off;
   }
 
 -- ---- terms that are refused, before anything is read
@@ -192,19 +161,6 @@ module _ (T : Type 0) (rules : RuleNumbers) (workers : ℕ) (x : RdsError) where
   terms_refused (inr (inr (inr (inr is)))) burst reach loss share = said ShareRange is share
 
 -- no device was used
-at_once : (P : List ℕ → Bool → ℕ → List ℕ → Bool → ℕ → Result (Unit {0}) RdsError → Type 0) (e : RdsError) → P [] false 0 [] false 0 (Err e)
-    → (given : List ℕ) (ended : Bool) (reads : ℕ) (taken : List ℕ) (flushed : Bool) (writes : ℕ) (answer : Result (Unit {0}) RdsError)
-    → answer ≡ Err e → given ≡ [] → ended ≡ false → reads ≡ 0 → taken ≡ [] → flushed ≡ false → writes ≡ 0
-    → P given ended reads taken flushed writes answer
-at_once P x all given ended reads taken flushed writes answer a g e r t f w =
-    subst (λ y. P y ended reads taken flushed writes answer) (sym g)
-    (subst (λ y. P [] y reads taken flushed writes answer) (sym e)
-    (subst (λ y. P [] false y taken flushed writes answer) (sym r)
-    (subst (λ y. P [] false 0 y flushed writes answer) (sym t)
-    (subst (λ y. P [] false 0 [] y writes answer) (sym f)
-    (subst (λ y. P [] false 0 [] false y answer) (sym w)
-    (subst (λ y. P [] false 0 [] false 0 y) (sym a) all))))))
-
 module _ (rules : RuleNumbers) (workers : ℕ) (e : RdsError) (why : RefusesTerms rules workers e) where
   none_followed : (s : Stream) → 0 < s.step → s.size [] ≡ 0 → s.rows [] ≡ [] → IsFollowed [] false 0 [] false 0 (Err e) s rules workers
   none_followed s some size none = record {
@@ -228,14 +184,6 @@ module _ (rules : RuleNumbers) (workers : ℕ) (e : RdsError) (why : RefusesTerm
     };
   }
 
-  none_of : (gaps : List (ℕ × ℕ)) (bits margin : Option ℕ) → IsFollowed [] false 0 [] false 0 (Err e) (stream_of rules gaps bits margin workers) rules workers
-  none_of gaps bits None = none_followed (stream_of rules gaps bits None workers) (omega arith) refl refl
-  none_of gaps bits (Some m) = none_followed (stream_of rules gaps bits (Some m) workers) (omega arith) refl refl
-
-  pub stream_refused : (gaps : List (ℕ × ℕ)) (bits margin : Option ℕ)
-      → (given : List ℕ) (ended : Bool) (reads : ℕ) (taken : List ℕ) (flushed : Bool) (writes : ℕ) (answer : Result (Unit {0}) RdsError)
-      → answer ≡ Err e → given ≡ [] → ended ≡ false → reads ≡ 0 → taken ≡ [] → flushed ≡ false → writes ≡ 0
-      → IsFollowed given ended reads taken flushed writes answer (stream_of rules gaps bits margin workers) rules workers
-  stream_refused gaps bits margin =
-      at_once (λ given ended reads taken flushed writes answer. IsFollowed given ended reads taken flushed writes answer (stream_of rules gaps bits margin workers) rules workers) e
-      (none_of gaps bits margin)
+  pub stream_refused : (gaps : List (ℕ × ℕ)) (bits margin : Option ℕ) → IsFollowed [] false 0 [] false 0 (Err e) (stream_of rules gaps bits margin workers) rules workers
+  stream_refused gaps bits None = none_followed (stream_of rules gaps bits None workers) (omega arith) refl refl
+  stream_refused gaps bits (Some m) = none_followed (stream_of rules gaps bits (Some m) workers) (omega arith) refl refl

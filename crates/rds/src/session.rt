@@ -2,9 +2,9 @@
 //!
 //! No contract can name the bytes that the system will give or keep. So a session returns both devices with their
 //! histories: the bytes that reads gave, and the bytes that writes took.
-ghost use Rattle.std.specs.Prelude.{◌<◌, ◌^◌, ◌≡◌, Err, IfErr, IfOk};
+ghost use Rattle.std.specs.Prelude.{◌<◌, ◌^◌, ◌≡◌, IfErr, IfOk};
 ghost use Rattle.rds_tool.specs.Following.{Follows};
-ghost use Rattle.rds.specs.{Fresh.IsUnread, Fresh.IsUnwritten, Session.DoesAsked, Session.HasDone, Session.HasFollowed, Session.RefusesTerms, Session.RefusesWorkers, Session.stream_of};
+ghost use Rattle.rds.specs.{Fresh.IsUnread, Fresh.IsUnwritten, Session.DoesAsked, Session.HasDone, Session.HasFollowed, Session.RefusesTerms, Session.stream_of};
 
 use crate::progress::{Console, Progress, Reporting, Teller};
 use crate::sealed::Sealed;
@@ -129,8 +129,29 @@ fn run_stream<C: Threads + Sync>(
     ensures { HasFollowed (stream_of numbers input.now.gaps input.now.bits margin workers) numbers workers result }
 {
     match rules_for(alloc, numbers, workers) {
-        Ok(rules) => follow_by(alloc, crew, reader, writer, input, &rules, margin, workers),
-        Err(error) => refused_session(reader, writer, error),
+        Ok(rules) => {
+            let (mut reader, mut writer) = (reader, writer);
+            let answer = follow_asked(
+                alloc,
+                crew,
+                &mut reader,
+                &mut writer,
+                input,
+                &rules,
+                margin,
+                workers,
+            );
+            Session {
+                reader,
+                writer,
+                answer,
+            }
+        }
+        Err(error) => Session {
+            reader,
+            writer,
+            answer: Err(error),
+        },
     }
 }
 
@@ -141,55 +162,16 @@ fn rules_for(alloc: Global, asked: RuleNumbers, workers: u32) -> Result<Rules, R
 {
     match Rules::of(alloc, asked) {
         Ok(rules) => {
-            check_workers(workers)?;
+            if workers < 1 || workers > MOST_WORKERS {
+                return Err(RdsError::CrewRange);
+            }
             Ok(rules)
         }
         Err(error) => Err(error),
     }
 }
 
-/// Refuses a number of workers out of its range.
-fn check_workers(workers: u32) -> Result<(), RdsError>
-    ensures { IfErr result (λ error. RefusesWorkers workers error) }
-{
-    if workers < 1 || workers > MOST_WORKERS {
-        return Err(RdsError::CrewRange);
-    }
-    Ok(())
-}
-
 /// Follows a stream by these rules.
-fn follow_by<C: Threads + Sync>(
-    alloc: Global,
-    crew: &C,
-    mut reader: Sealed<FromRead<Stdin>>,
-    mut writer: Sealed<ToWrite<Stdout>>,
-    input: &Input,
-    rules: &Rules,
-    margin: Option<Margin>,
-    workers: u32,
-) -> Session
-    requires reader { IsUnread reader }
-    requires writer { IsUnwritten writer }
-    ensures { HasFollowed (stream_of rules.now input.now.gaps input.now.bits margin workers) rules.now workers result }
-{
-    let answer = follow_asked(
-        alloc,
-        crew,
-        &mut reader,
-        &mut writer,
-        input,
-        rules,
-        margin,
-        workers,
-    );
-    Session {
-        reader,
-        writer,
-        answer,
-    }
-}
-
 fn follow_asked<C: Threads + Sync, S: Source, K: Sink>(
     alloc: Global,
     crew: &C,
@@ -212,22 +194,5 @@ fn follow_asked<C: Threads + Sync, S: Source, K: Sink>(
         Some(margin) => follow_soft(
             crew, alloc, reader, writer, rules, margin, bits, gaps, workers,
         ),
-    }
-}
-
-/// A session that is refused before anything is read.
-fn refused_session(
-    reader: Sealed<FromRead<Stdin>>,
-    writer: Sealed<ToWrite<Stdout>>,
-    error: RdsError,
-) -> Session
-    ensures answer { result.answer ≡ Err error }
-    ensures reader { result.reader ≡ reader }
-    ensures writer { result.writer ≡ writer }
-{
-    Session {
-        reader,
-        writer,
-        answer: Err(error),
     }
 }

@@ -74,9 +74,9 @@ fn push_calls(
     requires fits { IsCutting (length_of recording.now) cutting.now }
     requires two { pieces_of cutting.now ≡ 2 }
 {
-    let joined = two_guesses::join_guesses(alloc, recording, rules, cutting)?;
+    let joined = two_guesses::of_guesses(alloc, recording, rules, cutting, true)?;
     push_row(text, "joined", joined)?;
-    let stitched = two_guesses::stitch_guesses(alloc, recording, rules, cutting)?;
+    let stitched = two_guesses::of_guesses(alloc, recording, rules, cutting, false)?;
     push_row(text, "stitched", stitched)?;
     Ok(())
 }

@@ -1,8 +1,8 @@
 //! A crew of workers that makes the report of a work.
-ghost use Rattle.std.specs.Prelude.{◌≡◌, ◌⊎◌, ◌↔◌, ◌<◌, ◌≤◌, length, IfErr, IfOk, IsErrOf, IsOkUnless, IsTrue};
+ghost use Rattle.std.specs.Prelude.{◌≡◌, ◌⊎◌, ◌↔◌, ◌<◌, IfErr, IfOk, IsErrOf};
 ghost use Rattle.rds_stream.specs.Recording.{length_of};
 ghost use Rattle.rds_sync.specs.{Decoding.listed, Report.report_items, Totals.totals_of};
-ghost use Rattle.rds_pieces.specs.{Cutting.IsCutting, RunOf.FollowEachOther};
+ghost use Rattle.rds_pieces.specs.Cutting.{IsCutting};
 
 use crate::gate::Gate;
 use crate::guesses::Guesses;
@@ -54,7 +54,7 @@ pub fn decode_crew<R: Threads + Sync, W: Work + Sync, G: Gate + Sync>(
     ensures range { IsErrOf result RdsError.CrewRange ↔ ((workers ≡ 0) ⊎ (256 < workers)) }
     ensures err { IfErr result (λ e. (e ≡ RdsError.CrewRange) ⊎ (e ≡ RdsError.OutOfMemory)) }
 {
-    if !may_be_so_many(workers) {
+    if workers == 0 || workers > MOST_WORKERS {
         return Err(RdsError::CrewRange);
     }
     let runs = make_all(rt, alloc, &Guesses { work, gate }, workers)?;
@@ -62,27 +62,7 @@ pub fn decode_crew<R: Threads + Sync, W: Work + Sync, G: Gate + Sync>(
     // In order they follow each other from the first bit to the last, as a join and the report ask of them.
     laws::pieces_follow();
     let runs = join_all(rt, alloc, work, gate, workers, runs)?;
-    report_of(alloc, work, runs.as_slice())
-}
-
-/// Whether a crew may have this number of workers.
-fn may_be_so_many(workers: u32) -> bool
-    ensures { IsTrue result ↔ ((0 < workers) × (workers ≤ 256)) }
-{
-    workers != 0 && workers <= MOST_WORKERS
-}
-
-/// The report of a work, from runs in a row from its first bit to its last.
-fn report_of<W: Work>(alloc: Global, work: &W, runs: &[PieceRun]) -> Result<Report, RdsError>
-    requires in_a_row { FollowEachOther (W.recording work.now) (W.rule_set work.now)
-        0 (length_of (W.recording work.now)) runs.now }
-    ensures items { IfOk result (λ report. report.items ≡ listed (W.recording work.now) (W.rule_set work.now)
-        (report_items (W.recording work.now) (W.rule_set work.now))) }
-    ensures totals { IfOk result (λ report. report.totals
-        ≡ totals_of (report_items (W.recording work.now) (W.rule_set work.now))) }
-    ensures err { IsOkUnless result RdsError.OutOfMemory }
-{
-    match work.report(alloc, runs) {
+    match work.report(alloc, runs.as_slice()) {
         Ok(report) => Ok(report),
         Err(_) => Err(RdsError::OutOfMemory),
     }

@@ -1,5 +1,5 @@
 //! The run of a piece.
-ghost use Rattle.std.specs.Prelude.{◌≡◌, ◌+◌, ◌-◌, ◌<◌, ◌≤◌, ◌^◌, IfOk, IsOkUnless, slice_index};
+ghost use Rattle.std.specs.Prelude.{◌≡◌, ◌-◌, ◌<◌, ◌≤◌, ◌^◌, IfOk, IsOkUnless};
 ghost use Rattle.rds_stream.specs.Recording.{length_of};
 ghost use Rattle.rds_sync.specs.{Decoding.listed, Ranges.IsInRange, Totals.totals_of};
 ghost use Rattle.rds_pieces.specs.{Cutting.IsCutting, Cutting.pieces_of, Guess.guess, Marks.marks_of, RunOf.run_at, RunOf.run_over, Inside.RunInside.IsKept};
@@ -130,18 +130,6 @@ impl PieceRun {
     }
 }
 
-/// The places of piece `j` of a cutting of the recording: its first, and the one after its last.
-fn range_of(rec: &Recording, cutting: &Cutting, j: u64) -> (u64, u64)
-    requires fits { IsCutting (length_of rec.now) cutting.now }
-    requires piece { j < pieces_of cutting.now }
-    ensures first { result.0 ≡ slice_index cutting.now j }
-    ensures end { result.1 ≡ slice_index cutting.now (j + 1) }
-    ensures inside { (result.0 ≤ result.1) × (result.1 ≤ length_of rec.now) }
-{
-    let _ = rec;
-    (cutting.from(j), cutting.to(j))
-}
-
 /// Guesses piece `j` of a cutting: runs from Searching at its first place to its end, as if nothing came
 /// before. Its windows may look before that place. Its only error is `OutOfMemory`.
 ///
@@ -162,6 +150,7 @@ pub fn speculate(
 }
 
 /// The same, with its items in such spans.
+#[tactic(auto, using(std::proofs::lemmas::Grind::common_steps, crate::proofs::CuttingLemmas::range_inside))]
 pub(crate) fn speculate_into(
     alloc: Global,
     rec: &Recording,
@@ -175,7 +164,7 @@ pub(crate) fn speculate_into(
     ensures ok { IfOk result (λ r. r ≡ run_at rec.now rules.now cutting.now j) }
     ensures err { IsOkUnless result OutOfMemory }
 {
-    let (from, to) = range_of(rec, cutting, j);
+    let (from, to) = (cutting.from(j), cutting.to(j));
     let len = rec.len();
     prove!(to <= len);
     prove!(1 <= rules.reach());

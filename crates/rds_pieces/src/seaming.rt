@@ -1,6 +1,6 @@
 //! The seam before a piece: how the state that the pieces before it left runs over it.
-ghost use Rattle.std.specs.Prelude.{◌≡◌, ℕ, Option, ◌+◌, ◌-◌, ◌*◌, ◌≤◌, ◌^◌, IfOk, IsOkUnless, length};
-ghost use Rattle.rds_sync.specs.{Counting.IsRest, Lawful.IsLawful, Step.run as run_of, Tally.gone_on, Tally.tally_at, Totals.totals_of, declared.totals.Totals.Totals, Decoding.listed};
+ghost use Rattle.std.specs.Prelude.{◌≡◌, ℕ, Option, ◌+◌, ◌-◌, ◌*◌, ◌≤◌, ◌^◌, IfOk, IsOkUnless};
+ghost use Rattle.rds_sync.specs.{Decoding.listed, Lawful.IsLawful, Step.run as run_of, Tally.gone_on, Tally.tally_at, Totals.totals_of};
 ghost use Rattle.rds_pieces.specs.{Inside.Beside.come_to, Meeting.IsMeeting, Meeting.distance, Seams.seam_reads, Soon.IsSoonMet};
 ghost use Rattle.rds_code.specs.declared.error.RdsError.TheVariants.{OutOfMemory};
 
@@ -11,7 +11,7 @@ use crate::seams::Seam;
 use rds_code::RdsError;
 use rds_stream::Tape;
 use rds_sync::laws::runs_converge;
-use rds_sync::{Report, Rules, State, Totals};
+use rds_sync::{Report, Rules, State};
 use std::alloc::Global;
 
 /// Carries the run on from `state`, lawful at the piece's first place, over the piece that `run` guessed, of the tape's
@@ -67,38 +67,13 @@ pub fn seam<T: Tape>(
     let beside = go_beside(alloc, tape, rules, state, from, to, run.cut())?;
     let met_at = beside.met_at;
     let (report, end_state) = sewn(beside, state, run)?;
-    Ok(seam_of(report, end_state, met_at))
-}
-
-/// The seam of a piece, from a report of its items.
-fn seam_of(report: Report, end_state: State, met_at: Option<u64>) -> Seam
-    ensures items { result.items ≡ report.items }
-    ensures totals { result.totals ≡ report.totals }
-    ensures end { result.end_state ≡ end_state }
-    ensures met { result.met_at ≡ met_at }
-{
     let Report { items, totals } = report;
-    Seam {
+    Ok(Seam {
         items,
         totals,
         end_state,
         met_at,
-    }
-}
-
-/// How many items a report has.
-fn item_count(report: &Report) -> usize
-    ensures { result ≡ length report.now.items.list }
-{
-    report.items.len()
-}
-
-/// The totals of the items after some first ones, from those of all and those of the first.
-fn totals_after(all: Totals, first: Totals) -> Totals
-    requires { (rest : Totals) × IsRest first all rest }
-    ensures { (rest : Totals) → IsRest first all rest → result ≡ rest }
-{
-    all.less(first)
+    })
 }
 
 /// The report of a run over the whole range, and its end state, once it went on from `state` beside the
@@ -131,8 +106,8 @@ fn sewn(beside: Beside, state: State, run: &PieceRun) -> Result<(Report, State),
         None => Ok((report, end_state)),
         Some(_place) => {
             let before = guess.report()?;
-            report.items.append_from(run.list(), item_count(&before))?;
-            let rest = totals_after(run.totals(), before.totals);
+            report.items.append_from(run.list(), before.items.len())?;
+            let rest = run.totals().less(before.totals);
             report.totals = report.totals.plus(rest);
             Ok((report, run.end_state()))
         }

@@ -1,5 +1,5 @@
 //! The report of a recording from the runs of its pieces.
-ghost use Rattle.std.specs.Prelude.{◌≡◌, ℕ, Option, ◌+◌, ◌-◌, ◌*◌, ◌++◌, ◌≤◌, ◌^◌, IfOk, IsOkUnless, length};
+ghost use Rattle.std.specs.Prelude.{◌≡◌, ℕ, Option, ◌+◌, ◌-◌, ◌*◌, ◌++◌, ◌≤◌, ◌^◌, IfOk, IsOkUnless};
 ghost use Rattle.rds_stream.specs.Recording.{length_of};
 ghost use Rattle.rds_sync.specs.{Counting.FitTogether, Counting.IsAtMost, Counting.plus, Decoding.listed, Lawful.IsLawful, Report.report_items, Step.items_of_end, Step.run as run_of, Totals.totals_of};
 ghost use Rattle.rds_pieces.specs.{Meeting.IsMeeting, RunOf.FollowEachOther, Seams.IsSumOfReads, Seams.seam_reads};
@@ -47,35 +47,10 @@ pub fn stitch<T: Tape>(
     ensures reads_way { (n : ℕ) → IsSumOfReads (T.signal tape.old) rules.now State.Searching runs.now n
         → T.reads_made tape.new ≤ T.reads_made tape.old + n + 3 }
 {
-    let (end_state, report) = carry_over_all(alloc, tape, rules, runs)?;
-    close_report(tape, rules, end_state, report)
-}
-
-/// Ends the report of a run over the whole recording with the group in progress at its end, if there is one.
-fn close_report<T: Tape>(
-    tape: &mut T,
-    rules: &Rules,
-    end_state: State,
-    report: Report,
-) -> Result<Report, RdsError>
-    requires lawful { IsLawful rules.now (length_of (T.signal tape.old)) end_state }
-    requires room { T.reads_made tape.old + 16 ≤ 2 ^ 63 }
-    requires named { report.items ≡ listed (T.signal tape.old) rules.now report.items.list }
-    requires totals { report.totals ≡ totals_of report.items.list }
-    requires small { IsAtMost ((2 ^ 28 - 1) * 2 ^ 36) report.totals }
-
-    ensures items { IfOk result (λ closed. closed.items ≡ listed (T.signal tape.old) rules.now
-        (report.items.list ++ items_of_end (T.signal tape.old) rules.now end_state)) }
-    ensures totals { IfOk result (λ closed. closed.totals
-        ≡ totals_of (report.items.list ++ items_of_end (T.signal tape.old) rules.now end_state)) }
-    ensures err { IsOkUnless result OutOfMemory }
-    ensures same { T.signal tape.new ≡ T.signal tape.old }
-    ensures reads { T.reads_made tape.new ≤ T.reads_made tape.old + 3 }
-{
-    // The end's totals join those before it.
+    // The totals of the group in progress at the end join those before it.
     totals_join();
+    let (end_state, mut report) = carry_over_all(alloc, tape, rules, runs)?;
     let last = finish(tape, rules, end_state);
-    let mut report = report;
     report.totals = report.totals.plus(Totals::of_end(last));
     report.items.close(end_state)?;
     Ok(report)

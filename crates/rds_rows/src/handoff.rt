@@ -1,8 +1,7 @@
 //! Where the makers of parts and their writer meet.
-ghost use Rattle.std.specs.Prelude.{◌≡◌, false, true};
-ghost use Rattle.rds_rows.specs.Sheets.{size_of, text_of};
+ghost use Rattle.std.specs.Prelude.{◌≡◌, true};
+ghost use Rattle.rds_rows.specs.Sheets.{text_of};
 
-use crate::sheet::Sheet;
 use crate::slot::{PartSpec, Slot};
 use std::sync::Mutex;
 use std::thread::yield_now;
@@ -15,24 +14,21 @@ pub(crate) struct Handoff<J: PartSpec> {
 }
 
 impl<J: PartSpec> Handoff<J> {
-    /// A seat whose first part has this number.
-    pub(crate) fn new(number: usize, sheet: Sheet) -> Handoff<J>
-        requires { size_of sheet ≡ J.size }
-    {
+    /// A seat with this slot.
+    pub(crate) fn new(slot: Slot<J>) -> Handoff<J> {
         Handoff {
-            slot: Mutex::new(Slot::new(number, sheet)),
+            slot: Mutex::new(slot),
         }
     }
 
-    /// Hands over the sheet with part `k` in exchange for a blank one. Answers whether there was one in
-    /// time.
-    pub(crate) fn put(&self, k: usize, sheet: &mut Sheet, looks: usize) -> bool
-        requires size { size_of sheet.old ≡ J.size }
-        requires part { text_of sheet.old ≡ J.part k }
-        ensures { size_of sheet.new ≡ J.size }
-    {
+    /// Hands over a made part in exchange for a blank sheet. Answers whether there was one in time.
+    pub(crate) fn put(&self, made: &mut Slot<J>, looks: usize) -> bool {
         for _ in 0..looks {
-            if self.put_once(k, sheet) {
+            let is_put = match self.slot.try_lock() {
+                Some(mut slot) => slot.put(made),
+                None => false,
+            };
+            if is_put {
                 return true;
             }
             yield_now();
@@ -40,43 +36,21 @@ impl<J: PartSpec> Handoff<J> {
         false
     }
 
-    fn put_once(&self, k: usize, sheet: &mut Sheet) -> bool
-        requires size { size_of sheet.old ≡ J.size }
-        requires part { text_of sheet.old ≡ J.part k }
-        ensures size { size_of sheet.new ≡ J.size }
-        ensures part { result ≡ false → text_of sheet.new ≡ J.part k }
-    {
-        match self.slot.try_lock() {
-            Some(mut slot) => slot.put(k, sheet),
-            None => false,
-        }
-    }
-
-    /// Takes over the sheet with part `k` in exchange for a blank one. Answers whether it was there in
-    /// time.
-    pub(crate) fn take(&self, k: usize, next: usize, sheet: &mut Sheet, looks: usize) -> bool
-        requires { size_of sheet.old ≡ J.size }
-        ensures size { size_of sheet.new ≡ J.size }
-        ensures part { result ≡ true → text_of sheet.new ≡ J.part k }
+    /// Takes over part `k` in exchange for a blank sheet. Answers whether it was there in time.
+    pub(crate) fn take(&self, k: usize, next: usize, spare: &mut Slot<J>, looks: usize) -> bool
+        ensures { result ≡ true → text_of spare.new.sheet ≡ J.part k }
     {
         for _ in 0..looks {
-            if self.take_once(k, next, sheet) {
+            let is_taken = match self.slot.try_lock() {
+                Some(mut slot) => slot.take(k, next, spare),
+                None => false,
+            };
+            if is_taken {
                 return true;
             }
             yield_now();
         }
         false
-    }
-
-    fn take_once(&self, k: usize, next: usize, sheet: &mut Sheet) -> bool
-        requires { size_of sheet.old ≡ J.size }
-        ensures size { size_of sheet.new ≡ J.size }
-        ensures part { result ≡ true → text_of sheet.new ≡ J.part k }
-    {
-        match self.slot.try_lock() {
-            Some(mut slot) => slot.take(k, next, sheet),
-            None => false,
-        }
     }
 
     /// The next part here has this number.

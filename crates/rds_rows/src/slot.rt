@@ -1,8 +1,10 @@
 //! A sheet for one part, which makers and writer exchange for their own.
-ghost use Rattle.std.specs.Prelude.{◌≡◌, ℕ, [], List, false, true};
-ghost use Rattle.rds_rows.specs.Sheets.{size_of, text_of};
+ghost use Rattle.std.specs.Prelude.{◌≡◌, ℕ, [], List, true};
+ghost use Rattle.rds_rows.specs.{Parts.IsNamed, Sheets.size_of, Sheets.text_of};
 
+use crate::rows::{Rows, fill_part};
 use crate::sheet::Sheet;
+use std::alloc::{AllocError, Global};
 use std::marker::{Brand, PhantomData};
 use std::mem;
 
@@ -32,49 +34,57 @@ pub(crate) struct Slot<J: PartSpec> {
 }
 
 impl<J: PartSpec> Slot<J> {
-    /// A slot for this part.
-    pub(crate) fn new(number: usize, sheet: Sheet) -> Slot<J>
-        requires { size_of sheet ≡ J.size }
+    /// A slot with a blank sheet.
+    pub(crate) fn new(alloc: Global, most: usize, longest: usize) -> Result<Slot<J>, AllocError>
+        requires { J.size ≡ (most, longest) }
     {
-        Slot {
-            sheet,
-            number,
+        Ok(Slot {
+            sheet: Sheet::new(alloc, most, longest)?,
+            number: 0,
             is_full: false,
             of: PhantomData,
-        }
+        })
     }
 
-    /// Leaves the sheet with part `k` here, and gives the slot's for it, if the slot is for that part and
-    /// not full. If the slot is for a later part, that one is no longer wanted. Else the answer is false.
-    pub(crate) fn put(&mut self, k: usize, sheet: &mut Sheet) -> bool
-        requires size { size_of sheet.old ≡ J.size }
-        requires part { text_of sheet.old ≡ J.part k }
-        ensures size { size_of sheet.new ≡ J.size }
-        ensures part { result ≡ false → text_of sheet.new ≡ J.part k }
+    /// Makes part `k` on the sheet.
+    pub(crate) fn make<T: Rows>(&mut self, rows: &T, k: usize)
+        requires { IsNamed (T.rows rows.now) (T.longest rows.now) J.size J.part }
+        ensures { text_of self.new.sheet ≡ J.part k }
     {
-        if self.number > k {
+        fill_part(rows, k, &mut self.sheet);
+        self.number = k;
+        self.is_full = true;
+    }
+
+    /// The text on the sheet.
+    pub(crate) fn as_slice(&self) -> &[u8]
+        ensures { result.now ≡ text_of self.now.sheet }
+    {
+        self.sheet.as_slice()
+    }
+
+    /// Takes a made part in exchange for what is here, if the slot is for that part and not full. If the slot is
+    /// for a later part, that one is no longer wanted. Else the answer is false.
+    pub(crate) fn put(&mut self, made: &mut Slot<J>) -> bool {
+        if self.number > made.number {
             return true;
         }
-        if self.is_full || self.number != k {
+        if self.is_full || self.number != made.number {
             return false;
         }
-        mem::swap(&mut self.sheet, sheet);
-        self.is_full = true;
+        mem::swap(self, made);
         true
     }
 
-    /// Gives the sheet with part `k` for another, if it is here, and is for part `next` then.
-    pub(crate) fn take(&mut self, k: usize, next: usize, sheet: &mut Sheet) -> bool
-        requires { size_of sheet.old ≡ J.size }
-        ensures size { size_of sheet.new ≡ J.size }
-        ensures part { result ≡ true → text_of sheet.new ≡ J.part k }
+    /// Gives part `k` for another slot, if it is here, and is for part `next` then.
+    pub(crate) fn take(&mut self, k: usize, next: usize, spare: &mut Slot<J>) -> bool
+        ensures { result ≡ true → text_of spare.new.sheet ≡ J.part k }
     {
         if !self.is_full || self.number != k {
             return false;
         }
-        self.is_full = false;
-        mem::swap(&mut self.sheet, sheet);
-        self.number = next;
+        mem::swap(self, spare);
+        self.go_on_with(next);
         true
     }
 

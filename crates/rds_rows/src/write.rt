@@ -1,18 +1,19 @@
 //! All rows of a list, written.
-ghost use Rattle.std.specs.Prelude.{◌*◌, ◌<◌, ◌^◌, ◌≡◌, ◌≤◌, [], All, IfOk, length};
+ghost use Rattle.std.specs.Prelude.{◌*◌, ◌<◌, ◌^◌, ◌≡◌, ◌≤◌, IfOk, length};
 ghost use Rattle.std.specs.List.{concat};
-ghost use Rattle.rds_rows.specs.{Gathered.kept_in, Parts.IsNamed, Sheets.size_of, Written.IsWritten};
+ghost use Rattle.rds_rows.specs.{Parts.part_of, Written.IsWritten};
 
 use crate::error::RowsError;
 use crate::gathered::Gathered;
+use crate::handoff::Handoff;
 use crate::owned_sink::{Lent, OwnedSink};
-use crate::rounds::{Caller, by_rounds, seats_of};
+use crate::rounds::{Caller, Rounds};
 use crate::rows::Rows;
-use crate::sheet::Sheet;
 use crate::sink::{Failed, Sink};
-use crate::slot::PartSpec;
+use crate::slot::{PartSpec, Slot};
 use std::alloc::{AllocError, Global};
 use std::marker::Brand;
+use std::sync::atomic::AtomicUsize;
 use std::thread::Threads;
 
 /// For how many parts there are seats for each worker but the caller, and how many seats there are at most,
@@ -46,7 +47,6 @@ pub fn write_rows<R: Threads + Sync, T: Rows + Sync, K: Sink>(
 {
     // No sheet has room for more rows than there are.
     let most = most.min(rows.len()).max(1);
-    let longest = rows.longest_row();
     let parts = rows.len().div_ceil(most);
     let others = parts.min(workers as usize).saturating_sub(1);
     let seats = (SEATS * others)
@@ -54,35 +54,10 @@ pub fn write_rows<R: Threads + Sync, T: Rows + Sync, K: Sink>(
         .max(2 * others)
         .min(parts)
         .max(1);
-    let seats = sheets_of(alloc, seats, most, longest)?;
-    let sheets = sheets_of(alloc, others, most, longest)?;
-    let caller = Caller {
-        mine: Sheet::new(alloc, most, longest)?,
-        spare: Sheet::new(alloc, most, longest)?,
-        gathered: Gathered::new(alloc, most, longest)?,
-        out: Lent { writer },
-    };
-    let (lent, result) = by_value(rt, alloc, rows, most, parts, seats, sheets, caller);
+    let (lent, result) = by_value(rt, alloc, rows, most, parts, seats, others, Lent { writer });
     let Lent { writer: back } = lent;
     take_back(back);
     result
-}
-
-/// `count` blank sheets, each for `most` rows.
-fn sheets_of(
-    alloc: Global,
-    count: usize,
-    most: usize,
-    longest: usize,
-) -> Result<Vec<Sheet>, AllocError>
-    ensures len { IfOk result (λ sheets. length sheets.items ≡ count) }
-    ensures size { IfOk result (λ sheets. All (λ s. size_of s ≡ (most, longest)) sheets.items) }
-{
-    let mut sheets = Vec::with_capacity(alloc, count)?;
-    for _ in 0..count {
-        sheets.push_reserved(Sheet::new(alloc, most, longest)?);
-    }
-    Ok(sheets)
 }
 
 /// Ends a loan: the lender then has the value that the returned reference points to.
@@ -100,26 +75,21 @@ fn by_value<R: Threads + Sync, T: Rows + Sync, W: OwnedSink + Drop>(
     rows: &T,
     most: usize,
     parts: usize,
-    seats: Vec<Sheet>,
-    sheets: Vec<Sheet>,
-    caller: Caller<W>,
+    seats: usize,
+    others: usize,
+    out: W,
 ) -> (W, Result<(), RowsError>)
-    requires some { 0 < length seats.items }
-    requires seats { All (λ s. size_of s ≡ (most, T.longest rows.now)) seats.items }
-    requires sheets { All (λ s. size_of s ≡ (most, T.longest rows.now)) sheets.items }
-    requires mine { size_of caller.mine ≡ (most, T.longest rows.now) }
-    requires spare { size_of caller.spare ≡ (most, T.longest rows.now) }
-    requires none { kept_in caller.gathered ≡ [] }
+    requires some { 0 < seats }
     requires parts { length (T.rows rows.now) ≤ parts * most }
-    requires count { W.failed caller.out < 2 ^ 63 }
-    ensures name { W.name result.0 ≡ W.name caller.out }
-    ensures written { IsWritten W.contents W.failed (concat (T.rows rows.now)) caller.out result.0 result.1 }
+    requires count { W.failed out < 2 ^ 63 }
+    ensures name { W.name result.0 ≡ W.name out }
+    ensures written { IsWritten W.contents W.failed (concat (T.rows rows.now)) out result.0 result.1 }
 {
-    write_by_handoffs::<R, Brand, T, W>(rt, alloc, rows, most, parts, seats, sheets, caller)
+    write_by_seats::<R, Brand, T, W>(rt, alloc, rows, most, parts, seats, others, out)
 }
 
-/// The rows, made and written with a seat for each sheet.
-fn write_by_handoffs<
+/// The rows, made by the caller and as many others, and written with so many seats.
+fn write_by_seats<
     R: Threads + Sync,
     J: PartSpec + Send + Sync,
     T: Rows + Sync,
@@ -130,28 +100,75 @@ fn write_by_handoffs<
     rows: &T,
     most: usize,
     parts: usize,
-    seats: Vec<Sheet>,
-    sheets: Vec<Sheet>,
-    caller: Caller<W>,
+    seats: usize,
+    others: usize,
+    out: W,
 ) -> (W, Result<(), RowsError>)
-    requires named { IsNamed (T.rows rows.now) (T.longest rows.now) J.size J.part }
-    requires some { 0 < length seats.items }
-    requires seats { All (λ s. size_of s ≡ J.size) seats.items }
-    requires sheets { All (λ s. size_of s ≡ J.size) sheets.items }
-    requires mine { size_of caller.mine ≡ J.size }
-    requires spare { size_of caller.spare ≡ J.size }
-    requires none { kept_in caller.gathered ≡ [] }
-    requires parts { length (T.rows rows.now) ≤ parts * J.size.0 }
-    requires count { W.failed caller.out < 2 ^ 63 }
-    ensures name { W.name result.0 ≡ W.name caller.out }
-    ensures written { IsWritten W.contents W.failed (concat (T.rows rows.now)) caller.out result.0 result.1 }
+    requires size { J.size ≡ (most, T.longest rows.now) }
+    requires part { J.part ≡ part_of (T.rows rows.now) most }
+    requires some { 0 < seats }
+    requires parts { length (T.rows rows.now) ≤ parts * most }
+    requires count { W.failed out < 2 ^ 63 }
+    ensures name { W.name result.0 ≡ W.name out }
+    ensures written { IsWritten W.contents W.failed (concat (T.rows rows.now)) out result.0 result.1 }
 {
-    let _ = most;
-    let Ok(seats) = seats_of::<J>(alloc, seats) else {
-        return (caller.out, Err(RowsError::OutOfMemory));
+    let longest = rows.longest_row();
+    let (Ok(seats), Ok(sheets), Ok(mine), Ok(spare), Ok(gathered)) = (
+        seats_of::<J>(alloc, seats, most, longest),
+        slots_of::<J>(alloc, others, most, longest),
+        Slot::<J>::new(alloc, most, longest),
+        Slot::<J>::new(alloc, most, longest),
+        Gathered::new(alloc, most, longest),
+    ) else {
+        return (out, Err(RowsError::OutOfMemory));
     };
-    match by_rounds(rt, rows, seats.as_slice(), parts, sheets, caller) {
+    let rounds = Rounds {
+        rows,
+        seats,
+        parts,
+        next: AtomicUsize::new(0),
+    };
+    let caller = Caller {
+        mine,
+        spare,
+        gathered,
+        out,
+    };
+    match rounds.write(rt, sheets, caller) {
         (out, Ok(())) => (out, Ok(())),
         (out, Err(Failed)) => (out, Err(RowsError::Write)),
     }
+}
+
+/// This many slots with blank sheets.
+fn slots_of<J: PartSpec>(
+    alloc: Global,
+    count: usize,
+    most: usize,
+    longest: usize,
+) -> Result<Vec<Slot<J>>, AllocError>
+    requires { J.size ≡ (most, longest) }
+{
+    let mut slots = Vec::with_capacity(alloc, count)?;
+    for _ in 0..count {
+        slots.push_reserved(Slot::new(alloc, most, longest)?);
+    }
+    Ok(slots)
+}
+
+/// This many seats with blank sheets.
+fn seats_of<J: PartSpec>(
+    alloc: Global,
+    count: usize,
+    most: usize,
+    longest: usize,
+) -> Result<Vec<Handoff<J>>, AllocError>
+    requires { J.size ≡ (most, longest) }
+    ensures { IfOk result (λ seats. length seats.items ≡ count) }
+{
+    let mut seats = Vec::with_capacity(alloc, count)?;
+    for _ in 0..count {
+        seats.push_reserved(Handoff::new(Slot::new(alloc, most, longest)?));
+    }
+    Ok(seats)
 }

@@ -28,18 +28,12 @@ module _ (out : List ℕ → Result (List ℕ) RdsError) (given bytes first begu
   before = ap₂ (λ x y. x ++ y) same none ∙ append-nil first
 
   pub given_back : Writes (Some (begun ++ taken)) (Some (last ++ taken')) (out given) → Writes (Some first) (Some text) (out bytes)
-  given_back w =
-      subst (λ x. Writes (Some first) (Some x) (out bytes)) (sym tied)
-      (subst (λ x. Writes (Some x) (Some (last ++ taken')) (out bytes)) before
-      (subst (λ x. Writes (Some (begun ++ taken)) (Some (last ++ taken')) (out x)) all w))
+  given_back w = rw (tied, ← before, ← all) w
 
   pub prefix_back : WritesPrefix (Some (begun ++ taken)) (Some (last ++ taken')) (out given)
       → (more : List ℕ) × (rest : List ℕ) × (out bytes ≡ Ok (more ++ rest)) × (text ≡ first ++ more)
   prefix_back w =
-      parted (out bytes)
-      (subst (λ x. WritesPrefix (Some first) (Some x) (out bytes)) (sym tied)
-      (subst (λ x. WritesPrefix (Some x) (Some (last ++ taken')) (out bytes)) before
-      (subst (λ x. WritesPrefix (Some (begun ++ taken)) (Some (last ++ taken')) (out x)) all w)))
+      let there : WritesPrefix (Some first) (Some text) (out bytes) = rw (tied, ← before, ← all) w in parted (out bytes) there
     where
       parted : (r : Result (List ℕ) RdsError) → WritesPrefix (Some first) (Some text) r → (more : List ℕ) × (rest : List ℕ) × (r ≡ Ok (more ++ rest)) × (text ≡ first ++ more)
       parted (Ok whole) (more, rest, split, wrote) = (more, rest, ap Ok split, wrote)
@@ -63,23 +57,14 @@ pub sent-text : EncodedGroupsAreListed → (hex : Bool) (settings : Settings) (e
     → result_of_job encode lines ≡ Ok bytes → result_of_job list held ≡ Ok listing
     → (words : List ℕ) (groups : List (List ℕ)) → groups_in lines ≡ Ok (words ∷ groups) → listing ≡ sent_listing words groups
 sent-text law hex settings encode list lines bytes held listing first next same encoded listed words groups spelled =
-    law hex settings lines words groups listing spelled
-    (ap (λ (made : Result (List ℕ) RdsError). and_then made (result_of_job (job.List (whole_input hex) settings)))
-    (sym (ap (λ (asked : Job). result_of_job asked lines) first) ∙ encoded)
-    ∙ sym (ap (λ (asked : Job). result_of_job asked bytes) next) ∙ ap (result_of_job list) (sym same) ∙ listed)
+    law hex settings lines words groups listing spelled (rw (rw first at encoded, ← same) (rw next at listed))
 
 -- a list and the totals of the same bytes
 pub before-totals : ListsEndWithTotals → (input : Input) (settings : Settings) (list totals : Job) (held listing counts : List ℕ)
     → list ≡ job.List input settings → totals ≡ job.Totals input settings → result_of_job list held ≡ Ok listing → result_of_job totals held ≡ Ok counts
     → (rows : List ℕ) × (listing ≡ rows ++ counts)
 before-totals law input settings list totals held listing counts first next listed counted =
-    let ends = law input settings held in (
-      ends.0,
-      same-ok listing (ends.0 ++ counts)
-          (sym listed ∙ ap (λ (asked : Job). result_of_job asked held) first ∙ ends.1
-          ∙ ap (λ (made : Result (List ℕ) RdsError). and_then made (λ text. Ok (ends.0 ++ text)))
-          (sym (ap (λ (asked : Job). result_of_job asked held) next) ∙ counted)),
-    )
+    let ends = law input settings held in (ends.0, same-ok listing (ends.0 ++ counts) (rw (rw first at listed, rw next at counted) at ends.1))
 
 -- ---- lists that were written, by the laws of their rows
 
@@ -92,9 +77,7 @@ well-formed law asked held listing written input settings is =
 pub alike : GapsHideBits → (asked : Job) (input : Input) (settings : Settings) (held other one two : List ℕ) → asked ≡ job.List input settings → input.hex ≡ false
     → DifferInGaps input.gaps held other → result_of_job asked held ≡ Ok one → result_of_job asked other ≡ Ok two → one ≡ two
 alike law asked input settings held other one two is bytes differ first second =
-    same-ok one two
-    (sym (subst (λ (j : Job). result_of_job j held ≡ Ok one) is first)
-    ∙ sym (law input settings held other bytes differ).0 ∙ subst (λ (j : Job). result_of_job j other ≡ Ok two) is second)
+    same-ok one two (sym (rw is at first) ∙ sym (law input settings held other bytes differ).0 ∙ rw is at second)
 
 pub begun : RowsBeginLists → (asked : Job) (held listing : List ℕ) → result_of_job asked held ≡ Ok listing
     → (settings : Settings) (plan : PlanOf) (gaps : List (ℕ × ℕ)) (heard more : List ℕ) → asked ≡ job.List (stream_input None gaps) settings

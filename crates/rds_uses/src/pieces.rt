@@ -1,10 +1,9 @@
 //! Facts that a user of `rds_pieces` relies on: cuttings, guesses, seams, joins, and the report that is stitched of them.
-ghost use Rattle.std.specs.Prelude.{◌≡◌, ℕ, ◌+◌, ◌-◌, ◌*◌, ◌<◌, ◌≤◌, ◌^◌, ◌∷◌, [], Err, IfOk, IsOkUnless, Ok, Option, Some, IfSome, vec_len};
+ghost use Rattle.std.specs.Prelude.{◌≡◌, ℕ, ◌+◌, ◌-◌, ◌*◌, ◌<◌, ◌≤◌, ◌^◌, ◌∷◌, [], Err, IfOk, IsOkUnless, Ok, Option, Some};
 ghost use Rattle.rds_stream.specs.Recording.{length_of};
 ghost use Rattle.rds_sync.specs.{declared.state.State.TheVariants.Searching, declared.loss.Loss.TheVariants.Run, Convergence.IsSound, Decoding.listed, Lawful.IsLawful, Report.report_items, Step.run as run_of, Totals.totals_of};
 ghost use Rattle.rds_pieces.specs.{Cutting.IsCutting, Cutting.pieces_of, Guess.guess, Marks.marks_of, Joining.AreNeighbours, Joining.IsJoin, Meeting.IsMeeting, Meeting.distance, RunOf.FollowEachOther, RunOf.run_over, RunOf.runs_of, Seams.IsSumOfReads};
 ghost use Rattle.rds_code.specs.declared.error.RdsError.TheVariants.{BadCutting, OutOfMemory};
-ghost use Rattle.rds_uses.specs.Jobs.{all_bits};
 
 use rds_code::RdsError;
 use rds_pieces::{Cutting, Mark, PieceRun, Seam, Work, join_runs, laws, seam, speculate, stitch};
@@ -139,7 +138,7 @@ pub fn cost_of_join<T: Tape>(
 // ---- reports
 
 /// The report of a recording in the pieces of a cutting.
-pub(crate) fn stitch_pieces(
+pub fn stitch_pieces(
     alloc: Global,
     recording: &Recording,
     rules: &Rules,
@@ -220,40 +219,4 @@ pub fn report_of_work<W: Work>(
         }
         _ => Err(RdsError::OutOfMemory),
     }
-}
-
-// ---- all of these together
-
-/// The report of the bytes of a recording in an even cutting: that of one decoder, into however many pieces it is cut.
-pub fn report_of(alloc: Global, bytes: Vec<u8>, pieces: u64) -> Option<Report>
-    requires few { 8 * vec_len bytes ≤ 2 ^ 36 }
-    requires some { 1 ≤ pieces }
-    ensures { IfSome result (λ report. report.items.list
-        ≡ report_items (all_bits bytes.items) (record { burst = 2; reach = 3; loss = Run 10 })) }
-{
-    let bits = 8 * bytes.len() as u64;
-    let recording = Recording::from_bytes(bytes, bits).ok()?;
-    let rules = usual_rules(alloc).ok()?;
-    in_pieces(alloc, &recording, &rules, pieces).ok()
-}
-
-/// The rules that the program takes if none are given.
-fn usual_rules(alloc: Global) -> Result<Rules, RdsError>
-    ensures { IfOk result (λ rules. rules ≡ record { burst = 2; reach = 3; loss = Run 10 }) }
-{
-    Rules::new(alloc, 2, 3, 10)
-}
-
-/// The report of a recording in this number of even pieces.
-fn in_pieces(
-    alloc: Global,
-    recording: &Recording,
-    rules: &Rules,
-    pieces: u64,
-) -> Result<Report, RdsError>
-    requires { 1 ≤ pieces }
-    ensures { IfOk result (λ report. report.items.list ≡ report_items recording.now rules.now) }
-{
-    let cutting = Cutting::even(alloc, recording.len(), pieces)?;
-    stitch_pieces(alloc, recording, rules, &cutting)
 }

@@ -21,32 +21,15 @@ use std::thread::Threads;
 
 // ---- a block, damaged
 
-/// A block with one or two bit errors is not valid with its own number.
-pub fn shows_two_bits(info: u16, offset: Offset, damage: u32) -> bool
-    requires block { damage < 2 ^ 26 }
-    requires some { 1 ≤ ones damage }
-    requires few { ones damage ≤ 2 }
-    ensures { result ≡ true }
+/// The offset of a block that was damaged: not one of its own number after one or two bit errors, and not its own if they span up to ten
+/// bits.
+pub fn offset_of_damaged(info: u16, offset: Offset, damage: u32) -> Option<Offset>
+    requires { damage < 2 ^ 26 }
+    ensures two { IfSome result (λ other. 1 ≤ ones damage → ones damage ≤ 2 → number other ≢ number offset) }
+    ensures ten { IsBurst 10 damage → result ≢ Some offset }
 {
     code_laws::damage_is_detected();
-    let heard = damaged(encode_block(info, offset), damage);
-    match offset_of(rem26(heard)) {
-        Some(other) => other.number().get() != offset.number().get(),
-        None => true,
-    }
-}
-
-/// A block is not valid with its own offset if its bit errors span up to ten bits.
-pub fn shows_ten_bits(info: u16, offset: Offset, damage: u32) -> bool
-    requires { IsBurst 10 damage }
-    ensures { result ≡ true }
-{
-    code_laws::damage_is_detected();
-    let heard = damaged(encode_block(info, offset), damage);
-    match offset_of(rem26(heard)) {
-        Some(other) => other != offset,
-        None => true,
-    }
+    offset_of(rem26(damaged(encode_block(info, offset), damage)))
 }
 
 // ---- noise, and miscorrection
@@ -168,23 +151,6 @@ pub fn encoded_and_decoded(alloc: Global, groups: &[[u16; 4]], rules: &Rules) ->
     }
 }
 
-/// So are groups that are heard from the first bit of a recording to its last, whoever encoded them.
-pub fn heard_and_decoded(
-    alloc: Global,
-    recording: &Recording,
-    rules: &Rules,
-) -> Result<Report, RdsError>
-    ensures refused { IsOkUnless result OutOfMemory }
-    ensures totals { IfOk result (λ report. (words : List ℕ) (groups : List (List ℕ))
-        → length_of recording.now ≡ 104 * length (words ∷ groups)
-        → AreHeard recording.now 0 (words ∷ groups)
-        → report.totals ≡ totals_sent (length (words ∷ groups))) }
-{
-    let _loss = rules.loss();
-    laws::sent_groups_are_listed();
-    decode_plain(alloc, recording, rules)
-}
-
 /// The last block of a group has offset D wherever the bits of the group are in a recording.
 pub fn offset_of_last_block(recording: &Recording, place: u64) -> Option<Offset>
     requires first { 25 ≤ place }
@@ -200,22 +166,33 @@ pub fn offset_of_last_block(recording: &Recording, place: u64) -> Option<Offset>
 
 // ---- a recording of groups, damaged
 
-/// Groups that were sent with bit errors are decoded as they were sent. The totals follow from the errors.
-pub fn damaged_and_decoded(alloc: Global, recording: &Recording, rules: &Rules) -> Option<Report>
-    ensures items { IfSome result (λ report. (groups : List SentGroup)
+/// Groups that were sent with bit errors are decoded as they were sent. The totals follow from the errors. So do those of groups without
+/// any that are heard from the first bit of a recording to its last, whoever encoded them.
+pub fn damaged_and_decoded(
+    alloc: Global,
+    recording: &Recording,
+    rules: &Rules,
+) -> Result<Report, RdsError>
+    ensures refused { IsOkUnless result OutOfMemory }
+    ensures items { IfOk result (λ report. (groups : List SentGroup)
         → AreBitsOf recording.now rules.now groups → report.items.list ≡ report_damaged groups) }
-    ensures totals { IfSome result (λ report. (groups : List SentGroup)
+    ensures totals { IfOk result (λ report. (groups : List SentGroup)
         → AreBitsOf recording.now rules.now groups → report.totals ≡ totals_received groups) }
-    ensures heard_items { IfSome result (λ report. (groups : List SentGroup)
+    ensures heard_items { IfOk result (λ report. (groups : List SentGroup)
         → AreAllHeard recording.now rules.now groups → report.items.list ≡ report_damaged groups) }
-    ensures heard_totals { IfSome result (λ report. (groups : List SentGroup)
+    ensures heard_totals { IfOk result (λ report. (groups : List SentGroup)
         → AreAllHeard recording.now rules.now groups → report.totals ≡ totals_received groups) }
+    ensures sent_totals { IfOk result (λ report. (words : List ℕ) (groups : List (List ℕ))
+        → length_of recording.now ≡ 104 * length (words ∷ groups)
+        → AreHeard recording.now 0 (words ∷ groups)
+        → report.totals ≡ totals_sent (length (words ∷ groups))) }
 {
     let _loss = rules.loss();
     laws::damaged_bits_are_decoded();
     laws::damaged_groups_are_listed();
     laws::damage_tells_totals();
-    decode_plain(alloc, recording, rules).ok()
+    laws::sent_groups_are_listed();
+    decode_plain(alloc, recording, rules)
 }
 
 /// A decoder locked at the first bit of a group gives the groups that were sent. So does any other, after a sound range.

@@ -6,5 +6,4 @@ pub returns : goal.returns
 returns g c =
     let r = c.requires.reader in
     let w = c.requires.writer in
-    job_done _ _ _ _ _ _ _ _ c.transcribe-answer.ensures r.given r.failures
-    (ap (λ xs. Some xs) w.taken) w.failures _ _ _ _ _ _ refl refl refl refl refl refl
+    job_done _ _ _ _ _ _ _ _ c.transcribe-answer.ensures r.given r.failures (ap (λ xs. Some xs) w.taken) w.failures _ _ refl refl

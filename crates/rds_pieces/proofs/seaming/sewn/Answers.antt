@@ -22,27 +22,27 @@ module _ (c : After-totals) where
   rest : IsRest c.in_ok-before-in-Some.before.totals c.totals.result (totals_of (later c.run_laws.ensures met).1)
   rest = sewn_rest c.run_laws.ensures met c.totals.ensures (c.in_ok-before-in-Some.ensures.totals ∙ ap (λ (t : TallyOf). totals_of t.list) guess)
 
-pub totals_after-rest-requires : goal.totals_after-rest-requires
-totals_after-rest-requires c = let a = (goal.at.totals_after-rest-requires c).After-totals in (totals_of (later c.run_laws.ensures (met a)).1, rest a)
+pub less-rest-requires : goal.less-rest-requires
+less-rest-requires c = let a = (goal.at.less-rest-requires c).After-totals in (totals_of (later c.run_laws.ensures (met a)).1, rest a)
 
 pub plus-report-requires : goal.plus-report-requires
 plus-report-requires c =
     let a = (goal.at.plus-report-requires c).After-totals in
     let mine = c.in_ok-report.ensures.totals ∙ ap (λ (t : TallyOf). totals_of t.list) (own a) in
-    sewn_fit c.run_laws.ensures (met a) c.range.ensures.rules.burst (omega (arith, c.range.ensures.inside, c.range.ensures.few)) mine (c.totals_after-rest.ensures _ (rest a))
+    sewn_fit c.run_laws.ensures (met a) c.range.ensures.rules.burst (omega (arith, c.range.ensures.inside, c.range.ensures.few)) mine (c.less-rest.ensures.value _ (rest a))
 
 pub returns-in_ok-append_from-in-Some-clause-items : goal.returns-in_ok-append_from-in-Some-clause-items
 returns-in_ok-append_from-in-Some-clause-items c =
     let a = (goal.at.returns-in_ok-append_from-in-Some-clause-items c).After-totals in
     let mine = c.in_ok-report.ensures.items ∙ ap (λ (t : TallyOf). listed t.source t.rules t.list) (own a) in
     let before = c.in_ok-before-in-Some.ensures.items ∙ ap (λ (t : TallyOf). listed t.source t.rules t.list) (guess a) in
-    sewn_list c.run_laws.ensures (met a) mine c.list.ensures before c.item_count.ensures c.in_ok-append_from-in-Some.ensures.ok
+    sewn_list c.run_laws.ensures (met a) mine c.list.ensures before c.len.ensures c.in_ok-append_from-in-Some.ensures.ok
 
 pub returns-in_ok-append_from-in-Some-clause-totals : goal.returns-in_ok-append_from-in-Some-clause-totals
 returns-in_ok-append_from-in-Some-clause-totals c =
     let a = (goal.at.returns-in_ok-append_from-in-Some-clause-totals c).After-totals in
     let mine = c.in_ok-report.ensures.totals ∙ ap (λ (t : TallyOf). totals_of t.list) (own a) in
-    c.plus-report.ensures.value ∙ sewn_totals c.run_laws.ensures (met a) mine (c.totals_after-rest.ensures _ (rest a))
+    c.plus-report.ensures.value ∙ sewn_totals c.run_laws.ensures (met a) mine (c.less-rest.ensures.value _ (rest a))
 
 pub returns-in_ok-append_from-in-Some-clause-end : goal.returns-in_ok-append_from-in-Some-clause-end
 returns-in_ok-append_from-in-Some-clause-end c =

@@ -1,0 +1,8 @@
+use Rattle.rds_rows.proofs.Names.{◌≡◌, ◌≤◌, vec_capacity, vec_len}
+use Rattle.rds_rows.proofs.write.seats_of.Given as goal
+
+abbrev pub invariant-loop : goal.invariant-loop
+invariant-loop g l = record {
+  len : vec_len l.seats ≡ l.counter;
+  room : l.count ≤ vec_capacity l.seats;
+}
