@@ -1,6 +1,6 @@
 //! The lightest flips, from the rows of least weights.
-ghost use Rattle.std.specs.Prelude.{◌≡◌, ◌<◌, ◌+◌, length};
-ghost use Rattle.rds_soft.specs.Inside.{Lightest.effect as the_effect, Lightest.confidence, Rows.AreRows, Rows.IsWalk};
+ghost use Rattle.std.specs.Prelude.{◌≡◌, ◌<◌, ◌≤◌, ◌+◌, length};
+ghost use Rattle.rds_soft.specs.Inside.{Lightest.effect as the_effect, Lightest.confidence, Lightest.least, Rows.AreRows, Rows.IsWalk};
 
 use crate::lightest::{Row, SYMBOLS, effect};
 
@@ -52,8 +52,8 @@ fn one_back(rows: &[Row], confidences: &[u8], sum: u16, walk: Walk, n: usize) ->
 {
     let turned = walk.left ^ effect(n);
     let confidence = u16::from(confidences[SYMBOLS - 1 - n]);
-    let kept_weight = u16::from(rows[n][walk.left as usize]);
-    let turned_weight = u16::from(rows[n][turned as usize]) + confidence;
+    let kept_weight = least_of(rows, confidences, n, walk.left);
+    let turned_weight = least_of(rows, confidences, n, turned) + confidence;
     if turned_weight < kept_weight {
         Walk {
             left: turned,
@@ -67,4 +67,18 @@ fn one_back(rows: &[Row], confidences: &[u8], sum: u16, walk: Walk, n: usize) ->
             ..walk
         }
     }
+}
+
+/// The least weight of flips of the last `n` symbols whose effects have this sum, by the rows for these confidences.
+#[inline(always)]
+fn least_of(rows: &[Row], confidences: &[u8], n: usize, sum: u16) -> u16
+    requires rows { length rows.now ≡ 27 }
+    requires least { AreRows the_effect (confidence confidences.now) rows.now }
+    requires place { n < 27 }
+    requires sum { sum < 1024 }
+    ensures value { result ≡ least the_effect (confidence confidences.now) n sum }
+    ensures small { result ≤ 255 }
+{
+    let _ = confidences;
+    u16::from(rows[n][sum as usize])
 }
