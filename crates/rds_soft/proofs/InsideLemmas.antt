@@ -43,8 +43,9 @@ module _ (b : Signal) (rules : RuleNumbers) (i : ℕ) where
       → (was_read (block_at b rules f x i wanted n) ≡ 0) ⊎ ((was_read (block_at b rules f x i wanted n) ≡ 1) × (f ≤ n) × (n ≤ x))
   was-read f x wanted n = grind (arith, common_steps)
 
-  of_blocks : (f x : ℕ) → 1 ≤ f → f ≤ x → x ≤ 4 → 26 * (x - f) + 25 ≤ i → IsInside (i + 1) (i - 26 * (x - f) - 25) (blocks_at b rules f x i)
-  of_blocks f x low order high room =
+  group-inside : (f x : ℕ) → 1 ≤ f → f ≤ x → x ≤ 4 → 26 * (x - f) + 25 ≤ i → ItemInside (i + 1) (Group (group b rules f x i))
+  unfolding group
+  group-inside f x low order high room =
       let first = was-read f x Either 1 in
       let second = was-read f x Either 2 in
       let third = was-read f x (hard_beside (block_at b rules f x i Either 2)) 3 in
@@ -55,10 +56,6 @@ module _ (b : Signal) (rules : RuleNumbers) (i : ℕ) where
         three = λ read. grind (arith, room, high, first, second, third, read);
         four = λ read. grind (arith, room, high, first, second, third, fourth, read);
       }
-
-  group-inside : (f x : ℕ) → 1 ≤ f → f ≤ x → x ≤ 4 → 26 * (x - f) + 25 ≤ i → ItemInside (i + 1) (Group (group b rules f x i))
-  unfolding group
-  group-inside f x low order high room = of_blocks f x low order high room
 
   completed-inside : (f x : ℕ) → 1 ≤ f → f ≤ x → x ≤ 4 → 26 * (x - f) + 25 ≤ i → AllInside (i + 1) (completed_group b rules f x i)
   completed-inside f x low order high room = grind (arith, common_steps, group-inside)

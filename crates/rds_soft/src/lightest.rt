@@ -100,7 +100,6 @@ fn block_of(row: &[u8], block: usize) -> u8x16
     requires block { block < 64 }
     ensures long { length result ≡ 16 }
     ensures each { (j : ℕ) → j < 16 → slice_index result j ≡ slice_index row.now (16 * block + j) }
-    ensures bytes { (j : ℕ) → j < 16 → slice_index result j < 256 }
 {
     let at = 16 * block;
     u8x16::from_slice(&row[at..])
