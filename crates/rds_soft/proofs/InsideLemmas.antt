@@ -70,21 +70,9 @@ module _ (b : Signal) (rules : RuleNumbers) (i : ℕ) where
   ordered : (f x : ℕ) → AreInOrder f x → (1 ≤ f) × (f ≤ x) × (x ≤ 4)
   ordered f x h = grind (arith, common_steps)
 
-  lock-inside : (lock : Lock) → IsLawful rules i (Locked lock) → (is_due lost : Bool) → (lock.due == i) ≡ is_due
-      → AllInside (i + 1) (elim is_due as (λ _. State × List Item) [
-        | false ↦ (Locked lock, [])
-        | true ↦ elim lost as (λ _. State × List Item) [
-          | false ↦
-              (Locked (lock_after i lock.number (history_after_block b rules i lock.number lock.bad) lock.first), completed_group b rules lock.first lock.number i)
-          | true ↦ (Searching, Group (group b rules lock.first lock.number i) ∷ LostLock i ∷ [])
-        ]
-      ]).1
-  lock-inside lock lawful is_due lost is = grind (arith, common_steps, eqb-true, ordered, completed-inside, group-inside)
-
   bit-inside : AcquisitionsAreLate → (s : State) → IsLawful rules i s → AllInside (i + 1) (items_at b rules i s)
   bit-inside late Searching lawful = search-inside (acquired b rules i) (late b rules i)
-  bit-inside late (Locked lock) lawful =
-      lock-inside lock lawful (lock.due == i) (are_too_many rules.loss (history_after_block b rules i lock.number lock.bad)) refl
+  bit-inside late (Locked lock) lawful = grind (arith, common_steps, eqb-true, ordered, completed-inside, group-inside)
 
 pub run-inside : AcquisitionsAreLate → StepsAreLawful → (b : Signal) (rules : RuleNumbers) → IsLossRule rules.loss
     → (s : State) (a bits : ℕ) → IsLawful rules a s → AllInside (a + bits) (run b rules s a bits).1
