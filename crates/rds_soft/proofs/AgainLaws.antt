@@ -88,9 +88,4 @@ reads_from_symbols law b symbols first x hard wanted limit margin low high few b
     let part : List ℤ = take 27 (drop first symbols) in
     let same : hard_window part ≡ window b.bits (first + 25) =
     sym (ap (λ (bs : List ℕ). window bs (first + 25)) bits ∙ symbols_have_windows symbols first within) in
-    let Goal : Bool → Bool → Type 0 = λ e t. block_again (if e && not (touched b (first + 25)) && t then Some part else None) x wanted margin
-    (Read (reading_at b (first + 25) x hard limit))
-    ≡ SoftRead (reading_heard (if e && not (touched b (first + 25)) && t then Some part else None) x wanted margin) in
-    let plain : Goal true true =
-    by_touch law (touched b (first + 25)) (window b.bits (first + 25)) x hard wanted limit margin part low high few same in
-    subst (λ (t : Bool). Goal (nat_lt (first + 25) (length_of b)) t) (sym there) (subst (λ (e : Bool). Goal e true) (sym ends) plain)
+    rw (ends, there) (by_touch law (touched b (first + 25)) (window b.bits (first + 25)) x hard wanted limit margin part low high few same)

@@ -60,18 +60,11 @@ module _ (b : Signal) (rules : RuleNumbers) (i : ℕ) where
   completed-inside : (f x : ℕ) → 1 ≤ f → f ≤ x → x ≤ 4 → 26 * (x - f) + 25 ≤ i → AllInside (i + 1) (completed_group b rules f x i)
   completed-inside f x low order high room = grind (arith, common_steps, group-inside)
 
-  search-inside : (found : Option ℕ) → ((x : ℕ) → found ≡ Some x → (51 ≤ i) × (1 ≤ x) × (x ≤ 4))
-      → AllInside (i + 1) (elim found as (λ _. State × List Item) [
-        | None ↦ (Searching, [])
-        | Some x ↦ (Locked (lock_after i x 0 x), Acquired i x ∷ completed_group b rules x x i)
-      ]).1
-  search-inside found late = grind (arith, common_steps, completed-inside)
-
   ordered : (f x : ℕ) → AreInOrder f x → (1 ≤ f) × (f ≤ x) × (x ≤ 4)
   ordered f x h = grind (arith, common_steps)
 
   bit-inside : AcquisitionsAreLate → (s : State) → IsLawful rules i s → AllInside (i + 1) (items_at b rules i s)
-  bit-inside late Searching lawful = search-inside (acquired b rules i) (late b rules i)
+  bit-inside late Searching lawful = grind (arith, common_steps, completed-inside, late b rules i)
   bit-inside late (Locked lock) lawful = grind (arith, common_steps, eqb-true, ordered, completed-inside, group-inside)
 
 pub run-inside : AcquisitionsAreLate → StepsAreLawful → (b : Signal) (rules : RuleNumbers) → IsLossRule rules.loss

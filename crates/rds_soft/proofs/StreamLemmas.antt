@@ -143,14 +143,16 @@ module _ (late : AcquisitionsAreLate) (steps : StepsAreLawful) (lawfuls : RunsAr
         let total : length all - 1 - 0 ≡ length all - 1 = omega arith in
         let front : length symbols - 1 - 0 ≡ length symbols - 1 = omega arith in
         let rest : length all - 1 - (length symbols - 1) ≡ bits = omega (arith, part-long more all refl, long more all refl, longer more all refl, kept-long symbols) in
-        ap (λ (n : ℕ). run whole rules Searching 0 n) (sym total)
-        ∙ joins whole rules Searching 0 (length symbols - 1) (length all - 1) (omega arith) (omega (arith, longer more all refl))
-        ∙ ap₂ (λ (a b : ℕ). (
-          (run whole rules (run whole rules Searching 0 a).0 (length symbols - 1) b).0,
-          (run whole rules Searching 0 a).1 ++ (run whole rules (run whole rules Searching 0 a).0 (length symbols - 1) b).1,
-        )) front rest
-        ∙ ap (λ (r : State × List Item). ((run whole rules r.0 (length symbols - 1) bits).0, r.1 ++ (run whole rules r.0 (length symbols - 1) bits).1)) run-before
-        ∙ ap (λ (r : State × List Item). (r.0, (run_of terms symbols).1 ++ r.1)) run-here
+        grind (
+          arith,
+          common_steps,
+          total,
+          front,
+          rest,
+          run-before,
+          run-here,
+          joins whole rules Searching 0 (length symbols - 1) (length all - 1) (omega arith) (omega (arith, longer more all refl)),
+        )
 
     pub state-after : moved_state (d symbols) found.0 ≡ (run_of terms all).0
     state-after = sym (ap (λ (r : State × List Item). r.0) run-after)
@@ -256,14 +258,7 @@ module _ {terms : SoftTerms} {symbols kept_now : List ℕ} {count : ℕ} {now : 
       → (part : Signal) (xs : List ℕ) (before : ℕ) → before ≡ count - length kept_now → part ≡ part_of terms.gaps before (kept_now ++ []) → xs ≡ kept_now ++ []
       → complete terms symbols ++ map (again_in part xs terms.margin before) (items_of_end part terms.rules (moved_back before now)) ≡ report_of terms symbols
   closed late steps lawfuls windows range reports ends part xs before b is xs_is =
-      let last : List ℕ = kept symbols ++ [] in
-      let whole : part ≡ part_of terms.gaps (d symbols) last =
-      is ∙ ap₂ (λ (n : ℕ) (ys : List ℕ). part_of terms.gaps n (ys ++ [])) (b ∙ before-is) k.kept_is in
-      let near : Signal = part_of terms.gaps (d symbols) last in
-      ap₂ (λ (p : Signal) (n : ℕ). complete terms symbols ++ map (again_in p xs terms.margin n) (items_of_end p terms.rules (moved_back n now))) whole (b ∙ before-is)
-      ∙ ap₂ (λ (ys : List ℕ) (s : State). complete terms symbols ++ map (again_in near ys terms.margin (d symbols)) (items_of_end near terms.rules (moved_back (d symbols) s)))
-      (xs_is ∙ ap (λ (ys : List ℕ). ys ++ []) k.kept_is) k.state_is
-      ∙ report-closed late steps lawfuls windows terms range k.gaps symbols reports ends
+      grind (arith, common_steps, before-is, report-closed late steps lawfuls windows terms range k.gaps symbols reports ends)
 
   -- the last symbols after further ones
   pub kept-after : (more : List ℕ) → last_symbols (kept_now ++ more) ≡ last_symbols (symbols ++ more)
