@@ -127,31 +127,21 @@ pub(crate) fn read_all_again<R: Threads + Sync>(
     requires places { All (λ item. place_of item < 2 ^ 37) items.now }
     ensures { IfOk result (λ again. again ≡ map (near_again near.now) items.now) }
 {
-    if others.is_empty() || !has_work_for_several(items) {
-        return list_of_part(alloc, search, near, items);
-    }
-    let mut again = vec![in alloc; SoftItem::LostLock { place: 0 }; items.len()]?;
-    read_all(rt, near, search, others, items, again.as_mut_slice());
-    list_of(alloc, again.as_slice())
-}
-
-/// The same by one thread.
-fn list_of_part(
-    alloc: Global,
-    search: &mut Search,
-    near: &Near,
-    items: &[Item],
-) -> Result<SoftList, AllocError>
-    requires limit { near.now.before ≤ 2 ^ 36 }
-    requires places { All (λ item. place_of item < 2 ^ 37) items.now }
-    ensures { IfOk result (λ again. again ≡ map (near_again near.now) items.now) }
-{
     let mut list = SoftList::new(alloc);
-    for item in items {
-        match valid_in(item, near.before) {
-            Some(group) => list.push_valid(group)?,
-            None => list.push(item_in(search, near, item))?,
+    if others.is_empty() || !has_work_for_several(items) {
+        for item in items {
+            match valid_in(item, near.before) {
+                Some(group) => list.push_valid(group)?,
+                None => list.push(item_in(search, near, item))?,
+            }
         }
+        return Ok(list);
+    }
+    let mut room = vec![in alloc; SoftItem::LostLock { place: 0 }; items.len()]?;
+    read_all(rt, near, search, others, items, room.as_mut_slice());
+    let found = room.as_slice();
+    for again in found {
+        list.push(*again)?;
     }
     Ok(list)
 }
@@ -201,17 +191,6 @@ fn third_offset(second: u16) -> Offset
     } else {
         Offset::Cx
     }
-}
-
-/// These items as a list.
-fn list_of(alloc: Global, items: &[SoftItem]) -> Result<SoftList, AllocError>
-    ensures { IfOk result (λ list. list ≡ items.now) }
-{
-    let mut list = SoftList::new(alloc);
-    for item in items {
-        list.push(*item)?;
-    }
-    Ok(list)
 }
 
 /// The group in progress at the end of a part, in this state of the stream, read again from the part's symbols.
