@@ -143,16 +143,8 @@ module _ (late : AcquisitionsAreLate) (steps : StepsAreLawful) (lawfuls : RunsAr
         let total : length all - 1 - 0 ≡ length all - 1 = omega arith in
         let front : length symbols - 1 - 0 ≡ length symbols - 1 = omega arith in
         let rest : length all - 1 - (length symbols - 1) ≡ bits = omega (arith, part-long more all refl, long more all refl, longer more all refl, kept-long symbols) in
-        grind (
-          arith,
-          common_steps,
-          total,
-          front,
-          rest,
-          run-before,
-          run-here,
-          joins whole rules Searching 0 (length symbols - 1) (length all - 1) (omega arith) (omega (arith, longer more all refl)),
-        )
+        let two = joins whole rules Searching 0 (length symbols - 1) (length all - 1) (omega arith) (omega (arith, longer more all refl)) in
+        grind (arith, common_steps, total, front, rest, two, run-before, run-here)
 
     pub state-after : moved_state (d symbols) found.0 ≡ (run_of terms all).0
     state-after = sym (ap (λ (r : State × List Item). r.0) run-after)
@@ -211,11 +203,8 @@ module _ (late : AcquisitionsAreLate) (steps : StepsAreLawful) (lawfuls : RunsAr
     pub report-closed : complete terms symbols ++ map (again_in near last terms.margin (d symbols)) (items_of_end near rules local) ≡ report_of terms symbols
     report-closed =
         let b = signal_of terms symbols in
-        ap (λ (xs : List SoftItem). complete terms symbols ++ xs) (sym end-again)
-        ∙ sym (map-append (item_again b (symbols_of symbols) terms.margin) (run_of terms symbols).1 (items_of_end b rules state))
-        ∙ ap (read_again terms symbols)
-        (ap (λ (n : ℕ). (run b rules Searching 0 n).1 ++ items_of_end b rules (run b rules Searching 0 n).0) (sym bits-long)
-        ∙ reports b rules range.loss.0)
+        let both = map-append (item_again b (symbols_of symbols) terms.margin) (run_of terms symbols).1 (items_of_end b rules state) in
+        grind (arith, common_steps, end-again, bits-long, both, reports b rules range.loss.0)
 
 -- ---- by the numbers of a decoder
 
