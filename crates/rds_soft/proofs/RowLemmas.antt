@@ -1,9 +1,5 @@
 -- A row that follows one of least weights has those with one symbol more.
-use Rattle.rds_soft.proofs.Names.{common_steps, ◌≡◌, ℕ, suc, ◌+◌, ◌<◌, ◌≤◌, List, [], sym, ap, ◌∙◌, arith, bit_xor, min, length, slice_index, get_or, set, subst, inl, inr, xor_lt, cases_lt, get_or-set_same, get_or-set_other, least, IsFirst, Follows, AreLeast}
-
-pub first_are_least : (e c : ℕ → ℕ) (row : List ℕ) → IsFirst row → AreLeast e c 0 row
-unfolding least
-first_are_least e c row h = record { long = h.long; each = h.each }
+use Rattle.rds_soft.proofs.Names.{common_steps, ◌≡◌, ℕ, suc, ◌+◌, ◌<◌, ◌≤◌, List, [], ap, ◌∙◌, arith, bit_xor, min, length, slice_index, get_or, set, inl, inr, xor_lt, cases_lt, get_or-set_same, get_or-set_other, least, Follows, AreLeast}
 
 pub next_are_least : (e c : ℕ → ℕ) (n : ℕ) (row next : List ℕ) → e n < 1024 → AreLeast e c n row → length next ≡ 1024
     → Follows row (e n) (c n) next → AreLeast e c (suc n) next
