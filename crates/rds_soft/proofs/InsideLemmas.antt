@@ -1,6 +1,6 @@
 -- The groups of a run end inside the part that the run is over, so they are read again there as in the whole.
-use Rattle.rds_sync.specs.{Groups.block_at, Groups.wanted_beside as hard_beside, declared.lock.Lock.Lock, Acquiring.acquired, Loss.IsLossRule, Loss.are_too_many}
-use Rattle.rds_soft.proofs.Names.{common_steps, ◌≡◌, ℕ, zero, suc, ◌+◌, ◌-◌, ◌*◌, ◌<◌, ◌≤◌, ◌∙◌, List, [], ◌∷◌, ◌++◌, Bool, true, false, Option, Some, None, ap, ap₂, arith, map, refl, subst, ⊤, ◌==◌, ℤ, eq-eqb, eqb-true, false≢true, Wanted, Either, Signal, State, Searching, Locked, Block, Item, Acquired, Group, LostLock, block_in, blocks_at, group, AreInOrder, IsLawful, AcquisitionsAreLate, StepsAreLawful, RuleNumbers, completed_group, history_after_block, items_at, items_of_end, lock_after, run, step, moved_item, moved_items, InSoft, first_bit, symbols_heard, was_read, block_again, group_again, item_again, wanted_beside, moved_again, ◌⊎◌}
+use Rattle.rds_sync.specs.{Groups.block_at, Groups.wanted_beside as hard_beside, Loss.IsLossRule}
+use Rattle.rds_soft.proofs.Names.{common_steps, ◌≡◌, ℕ, zero, suc, ◌+◌, ◌-◌, ◌*◌, ◌<◌, ◌≤◌, ◌∙◌, List, [], ◌∷◌, ◌++◌, Option, ap, ap₂, arith, map, refl, subst, ⊤, ℤ, eq-eqb, eqb-true, false≢true, Wanted, Either, Signal, State, Searching, Locked, Block, Item, Acquired, Group, LostLock, block_in, group, AreInOrder, IsLawful, AcquisitionsAreLate, StepsAreLawful, RuleNumbers, completed_group, items_at, items_of_end, run, step, moved_item, moved_items, InSoft, first_bit, symbols_heard, was_read, block_again, group_again, item_again, wanted_beside, moved_again, ◌⊎◌}
 
 -- ---- where blocks end
 

@@ -1,5 +1,5 @@
 -- The least weight is below that of any flips, the lightest flips have it, and all others weigh at least the second.
-use Rattle.rds_soft.proofs.Names.{common_steps, ◌≡◌, ℕ, zero, suc, ◌+◌, ◌-◌, ◌*◌, ◌^◌, ◌<◌, ◌≤◌, refl, sym, ap, ap₂, ◌∙◌, arith, bit_xor, subst, ◌⊎◌, inl, inr, lit<, bit_at, xor_self, xor_zero_r, xor_assoc, pow-suc, zero-mul, one-mul, min-le_left, min-le_right, cases_lt, xor_comm, bit_at_cat_low, bit_at_cat_high, bit_at_lowest, sum_of, weigh, of_none, least, second}
+use Rattle.rds_soft.proofs.Names.{common_steps, ◌≡◌, ℕ, zero, suc, ◌+◌, ◌-◌, ◌*◌, ◌^◌, ◌<◌, ◌≤◌, refl, sym, ap, ◌∙◌, arith, bit_xor, subst, ◌⊎◌, inl, inr, lit<, bit_at, xor_self, xor_zero_r, xor_assoc, pow-suc, zero-mul, one-mul, min-le_left, min-le_right, cases_lt, xor_comm, bit_at_cat_low, bit_at_cat_high, bit_at_lowest, sum_of, weigh, of_none, least, second}
 
 -- to take away what was added
 pub undone : (a b : ℕ) → bit_xor (bit_xor a b) b ≡ a
@@ -100,16 +100,6 @@ pub least_below : (e c : ℕ → ℕ) (n s flips : ℕ) → Reach e n s flips �
 unfolding least weigh sum_of
 least_below e c zero s flips h = subst (λ (x : ℕ). of_none x ≤ 0) h.sum (omega arith)
 least_below e c (suc n) s flips h = elim (ways e c n s flips h) [
-  | inl way ↦ omega (
-    arith,
-    way.0.weight,
-    least_below e c n s flips way.1,
-    min-le_left (least e c n s) (least e c n (bit_xor s (e n)) + c n),
-  )
-  | inr way ↦ omega (
-    arith,
-    way.1.weight,
-    least_below e c n (bit_xor s (e n)) way.0 way.2,
-    min-le_right (least e c n s) (least e c n (bit_xor s (e n)) + c n),
-  )
+  | inl way ↦ grind (arith, common_steps, way.0.weight, least_below e c n s flips way.1, min-le_left)
+  | inr way ↦ grind (arith, common_steps, way.1.weight, least_below e c n (bit_xor s (e n)) way.0 way.2, min-le_right)
 ]

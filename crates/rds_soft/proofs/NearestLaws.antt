@@ -57,13 +57,9 @@ together c (suc n) f g = grind (arith, common_steps, bit_at_xor, one_symbol, bit
 
 weight_together : (confidences : List ℕ) (f g : ℕ) → weight confidences (bit_xor f g) ≤ weight confidences f + weight confidences g
 weight_together confidences f g =
-    omega (
-      arith,
-      weight_is confidences (bit_xor f g),
-      weight_is confidences f,
-      weight_is confidences g,
-      together (confidence confidences) 27 f g,
-    )
+    let least = together (confidence confidences) 27 f g in
+    let both = weight_is confidences (bit_xor f g) in
+    omega (arith, both, least, weight_is confidences f, weight_is confidences g)
 
 -- flips that turn the received window turn the sent one, together with the wrong symbols
 both_turn : (b x : ℕ) (wanted : Wanted) (p : Offset) (wrong any : ℕ) → wrong < 2 ^ 27

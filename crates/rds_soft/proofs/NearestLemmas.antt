@@ -1,5 +1,5 @@
 -- From the lightest flips of each offset to the nearest block.
-use Rattle.rds_soft.proofs.Names.{common_steps, ◌≡◌, ◌≢◌, ℕ, zero, suc, ◌+◌, ◌<◌, ◌≤◌, List, refl, sym, ap, ◌∙◌, arith, bit_xor, min, subst, ◌⊎◌, inl, inr, IsTrue, xor_self, xor_assoc, xor_zero_l, min-le_left, min-le_right, min-eq_left, min-eq_right, cases_lt, cases_eq, false≢true, Offset, A, B, C, Cx, D, Wanted, OnlyC, OnlyCx, Either, rem, word, number, allows, IsLinear, mask_of, weight, Turns, IsNearest, effect, confidence, Leads, AreLightest, of_none, least, lightest, second, IsWalk, turn_to}
+use Rattle.rds_soft.proofs.Names.{common_steps, ◌≡◌, ◌≢◌, ℕ, zero, suc, ◌+◌, ◌<◌, ◌≤◌, List, refl, sym, ap, ◌∙◌, arith, bit_xor, min, subst, ◌⊎◌, inl, inr, IsTrue, xor_self, xor_assoc, xor_zero_l, min-le_left, min-le_right, min-eq_left, min-eq_right, cases_lt, cases_eq, false≢true, Offset, C, Cx, Wanted, OnlyC, OnlyCx, Either, rem, word, number, allows, IsLinear, mask_of, weight, Turns, IsNearest, effect, confidence, Leads, AreLightest, of_none, least, lightest, second, IsWalk, turn_to}
 use Rattle.rds_soft.{proofs.LightestLemmas.least_small, specs.declared.nearest.Turn.Turn}
 
 -- a xor (a xor b) is b
@@ -145,23 +145,11 @@ none_beside w x wanted confidences margin o flips least others h few near close 
     let rival_least : least ≤ others = omega (arith, h.none_lighter rival.0 rival.1 rival.2, rival.4) in
     elim (cases_eq any flips) [
       | inl same ↦
-          let weighs : weight confidences any ≡ least = ap (weight confidences) same ∙ it.1 in
-          omega (
-            arith,
-            weighs,
-            close,
-            rival.4,
-            nearest.alone rival.0 rival.1 rival.2 (λ is. rival.3 (is ∙ same)),
-          )
+          let far = nearest.alone rival.0 rival.1 rival.2 (λ is. rival.3 (is ∙ same)) in
+          omega (arith, ap (weight confidences) same, it.1, close, rival.4, far)
       | inr apart ↦
-          omega (
-            arith,
-            close,
-            rival_least,
-            it.1,
-            h.others_weigh p any nearest.turns apart,
-            nearest.alone o flips it.0 (λ is. apart (sym is)),
-          )
+          let far = nearest.alone o flips it.0 (λ is. apart (sym is)) in
+          omega (arith, close, rival_least, it.1, far, h.others_weigh p any nearest.turns apart)
     ]
 
 -- ---- which offsets are wanted

@@ -2,7 +2,7 @@
 use Rattle.rds_code.proofs.Membership.{each_below}
 use Rattle.rds_soft.proofs.SymbolLemmas.{sign_lt}
 use Rattle.rds_stream.proofs.BitOrder.{shr_bit}
-use Rattle.rds_soft.proofs.Names.{common_steps, ◌≡◌, ℕ, ◌+◌, ◌-◌, ◌*◌, ◌/◌, ◌%◌, ◌<◌, ◌++◌, ◌^◌, List, [], ◌∷◌, Bool, cond, ltb, length, drop, min, ap, refl, sym, ◌∙◌, arith, lit<, bit_xor, true, false, inl, inr, length-append, length-drop, ℤ, pos, slice_index, if◌then◌else◌, bit_at, cast_signed, is_positive, w8, cases_lt, le-ltb, lt-ltb, to_z_pos, min-eq_left, min-eq_right, get_or-map, get_or-drop, get_or_append_left, get_or-append-add, drop-drop, drop_all, packed_bit, xor_lt, bit_at_xor, bit_at_lowest, bit_at_cat_low, bit_at_cat_high, symbols_of, sign, hard_bit, sign_at}
+use Rattle.rds_soft.proofs.Names.{common_steps, ◌≡◌, ℕ, ◌+◌, ◌-◌, ◌*◌, ◌/◌, ◌%◌, ◌<◌, ◌++◌, ◌^◌, List, [], ◌∷◌, Bool, cond, ltb, length, drop, min, ap, refl, sym, ◌∙◌, arith, lit<, bit_xor, inl, inr, length-append, length-drop, pos, slice_index, if◌then◌else◌, bit_at, cast_signed, w8, cases_lt, le-ltb, lt-ltb, to_z_pos, min-eq_left, min-eq_right, get_or-map, get_or-drop, get_or_append_left, get_or-append-add, drop-drop, drop_all, packed_bit, xor_lt, bit_at_xor, bit_at_lowest, bit_at_cat_low, bit_at_cat_high, symbols_of, sign, hard_bit, sign_at}
 use mathlib.Core.Path.{ap₂}
 use Rattle.std.proofs.{Math.Nat.mod-lt, lemmas.Nat.pow_pos, lemmas.Nat.shr_split}
 use Rattle.std.specs.Int.{to_be_bytes, w64}

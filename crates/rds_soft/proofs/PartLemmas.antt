@@ -1,6 +1,7 @@
 -- A part of a stream of symbols: the bits between its symbols, what is heard of them, and the symbols of its blocks.
-use Rattle.rds_soft.proofs.Names.{◌≡◌, refl, ◌+◌, ◌-◌, ◌<◌, ◌≤◌, ◌++◌, ◌⊎◌, ◌∙◌, ℕ, List, Bool, Option, Some, None, true, false, ap, ap₂, arith, drop, length, sym, take, ℤ, nat_lt, not, ◌&&◌, if◌then◌else◌, list_any, cast_signed, w8, lt-ltb, drop-append-le, drop-drop, ext_get_or, length-drop, length-map, map-append, take-append-le, get_or-map-range_with_len, length-map-range_with_len, Signal, bits_of, heard, is_touched_by, length_of, packed_bit, touched, window, IsPartHeard, most_behind, TouchAlike, SymbolsHaveWindows, symbols_of, hard_bit, hard_bits, hard_window}
-use Rattle.rds_soft.proofs.{InsideLemmas.AreSymbolsOf, SymbolLemmas.bit_count}
+use Rattle.rds_soft.proofs.Names.{◌≡◌, refl, ◌+◌, ◌-◌, ◌<◌, ◌≤◌, ◌++◌, ◌⊎◌, ◌∙◌, ℕ, List, Bool, Option, Some, None, true, false, ap, ap₂, arith, drop, length, sym, take, ℤ, nat_lt, list_any, cast_signed, w8, lt-ltb, drop-append-le, drop-drop, ext_get_or, length-drop, length-map, map-append, take-append-le, get_or-map-range_with_len, length-map-range_with_len, Signal, bits_of, heard, is_touched_by, length_of, packed_bit, touched, window, IsPartHeard, most_behind, TouchAlike, SymbolsHaveWindows, symbols_of, hard_bit, hard_bits, hard_window}
+use Rattle.rds_soft.proofs.InsideLemmas.{AreSymbolsOf}
+pub use Rattle.rds_soft.proofs.SymbolLemmas.{bit_count as length-bits}
 use Rattle.std.proofs.lemmas.List.{drop-map}
 
 -- ---- bits
@@ -14,7 +15,7 @@ pub bits-are : (packed symbols : List ℕ) (n : ℕ) → n ≡ length symbols - 
 bits-are packed symbols n is same =
     let all : length (symbols_of symbols) - 1 ≡ n = omega (arith, is, length-symbols symbols) in
     ext_get_or 0 (bits_of packed n) (hard_bits (symbols_of symbols))
-    (length-map-range_with_len (packed_bit packed) 0 n ∙ sym (bit_count (symbols_of symbols) ∙ all)) (λ i inside.
+    (length-map-range_with_len (packed_bit packed) 0 n ∙ sym (length-bits (symbols_of symbols) ∙ all)) (λ i inside.
     let within : i < n = omega (arith, inside, length-map-range_with_len (packed_bit packed) 0 n) in
     get_or-map-range_with_len (packed_bit packed) 0 n i i 0 within (omega arith) ∙ same i (omega (arith, within, is))
     ∙ sym (get_or-map-range_with_len (hard_bit (symbols_of symbols)) 0 (length (symbols_of symbols) - 1) i i 0 (omega (arith, within, all)) (omega arith)))
@@ -59,7 +60,7 @@ module _ (windows : SymbolsHaveWindows) (gaps of_part : List (ℕ × ℕ)) (P W 
       ∙ ap (window (hard_bits (S W))) there
 
   long : length_of part ≡ n
-  long = bit_count (S P) ∙ ap (λ (k : ℕ). k - 1) (length-symbols P)
+  long = length-bits (S P) ∙ ap (λ (k : ℕ). k - 1) (length-symbols P)
 
   -- all of the part is heard in the whole
   pub part-heard : (from : ℕ) → (d ≡ 0) ⊎ (most_behind ≤ from) → IsPartHeard whole part d from
@@ -78,7 +79,7 @@ module _ (windows : SymbolsHaveWindows) (gaps of_part : List (ℕ × ℕ)) (P W 
       let place : first + 25 + d ≡ first + d + 25 = omega arith in
       let ends : nat_lt (first + 25) (length_of part) ≡ nat_lt (first + d + 25) (length_of whole) =
       lt-ltb (first + 25) (length_of part) (omega (arith, long, early))
-      ∙ sym (lt-ltb (first + d + 25) (length_of whole) (omega (arith, bit_count (S W), length-symbols W, reach, early))) in
+      ∙ sym (lt-ltb (first + d + 25) (length_of whole) (omega (arith, length-bits (S W), length-symbols W, reach, early))) in
       let touches : touched part (first + 25) ≡ touched whole (first + d + 25) =
       alike (first + 25) (omega arith) early ∙ ap (λ (p : ℕ). list_any (is_touched_by p) gaps) place in
       let there : nat_lt (first + 26) (length (S P)) ≡ nat_lt (first + d + 26) (length (S W)) =

@@ -1,5 +1,5 @@
 -- Totals of items read again.
-use Rattle.rds_soft.proofs.Names.{◌≡◌, common_steps, ℕ, ◌+◌, ◌*◌, List, [], ◌∷◌, ◌++◌, ◌<◌, ◌∙◌, ap, append_assoc, arith, length, slice_index, slice_index_or, sym, take, take_more, SoftItem, InSoft, soft_totals_of, plus}
+use Rattle.rds_soft.proofs.Names.{◌≡◌, common_steps, ℕ, ◌+◌, ◌*◌, List, [], ◌∷◌, ◌++◌, ◌<◌, append_assoc, arith, length, slice_index, slice_index_or, take, take_more, SoftItem, InSoft, soft_totals_of, plus}
 use Rattle.std.proofs.lemmas.List.Sums.{sum_by-append}
 use Rattle.rds_soft.specs.{Inside.Totals.clean, SoftLists.valid_group, declared.soft_list.ValidGroup.ValidGroup, declared.soft_totals.SoftTotals.SoftTotals}
 

@@ -1,4 +1,4 @@
--- Symbols from bytes: the signs of which bits are packed, and the 27 symbols of a block.
+-- Symbols from bytes: the signs that bits are packed from, and the 27 symbols of a block.
 use Rattle.std.specs.{Prelude.ℕ, Prelude.ℤ, Prelude.◌+◌, Prelude.List, Prelude.Option, Prelude.Some, Prelude.None, Prelude.length, Prelude.take, Prelude.drop, Prelude.nat_lt, Prelude.if◌then◌else◌, Prelude.slice_index, Int.cast_signed, Int.w8}
 use Rattle.rds_soft.specs.{ReadAgain.symbols_of, Symbols.sign}
 

@@ -1,4 +1,4 @@
-use Rattle.rds_soft.proofs.Names.{◌+◌, ◌-◌, ◌^◌, ◌<◌, ap, arith, bit_xor, xor_lt, the_effect, confidence}
+use Rattle.rds_soft.proofs.Names.{◌+◌, ◌-◌, ◌^◌, ◌<◌, ap, arith, bit_xor, xor_lt, the_effect}
 use Rattle.rds_soft.proofs.WalkLemmas.{walk_turned, walk_kept, spent_small, flips_small, power_is}
 use Rattle.rds_soft.proofs.look_back.one_back.Goals as goal
 

@@ -1,4 +1,4 @@
-use Rattle.rds_soft.proofs.Names.{common_steps, arith, length, ◌≡◌, ◌++◌, ◌+◌, ◌^◌, ◌∷◌, ◌∙◌, ℕ, List, [], ap, ap₂, SoftItem}
+use Rattle.rds_soft.proofs.Names.{common_steps, arith, length, ◌≡◌, ◌++◌, ◌+◌, ◌^◌, ◌∷◌, ◌∙◌, List, [], ap, ap₂, SoftItem}
 use Rattle.rds_soft.specs.{Inside.Lists.items_at}
 use Rattle.rds_soft.proofs.ListLemmas.{items_pushed}
 use Rattle.rds_soft.proofs.soft_list.SoftList.push.Goals as goal

@@ -1,4 +1,4 @@
-use Rattle.rds_soft.proofs.Names.{common_steps, ◌≡◌, ◌++◌, ◌∙◌, ℕ, List, [], ap, ap₂, arith, subst, sym, SoftHeard, SoftTerms, complete, group_item, report_of, soft_totals_of, part_of, SoftGroup, SoftItem, Option, map, again_in, items_of_end, moved_back}
+use Rattle.rds_soft.proofs.Names.{common_steps, ◌≡◌, ◌++◌, ◌∙◌, ℕ, List, [], ap, ap₂, arith, subst, sym, SoftHeard, SoftTerms, complete, group_item, report_of, soft_totals_of, part_of, SoftGroup, Option}
 use Rattle.rds_soft.proofs.{AgainLaws.symbols_have_windows, StreamLemmas.closed, StreamLemmas.early-is, StreamLemmas.end-long, StreamLemmas.lawful-is, soft_stream.SoftStream.finish.Goals.After-end_near-group}
 use Rattle.rds_soft.proofs.soft_stream.SoftStream.finish.Goals as goal
 

@@ -95,13 +95,10 @@ module _ (g : Over) (c : In_ok-found g) where
 
   few : length c.in_ok-found.found ≤ 2 * length more
   few =
-      omega (
-        arith,
-        ap (λ (xs : List SoftItem). length xs) items_are,
-        length-map found.1 (again_in part (kept symbols ++ more) c.self.inside.margin (d symbols)),
-        few-found c.acquisitions_are_late.ensures c.steps_are_lawful.ensures c.runs_are_lawful.ensures symbols_have_windows terms c.reach.ensures.range c.self.invariant.gaps symbols
-            c.runs_join.ensures c.runs_move.ensures more c.runs_give_few_items.ensures,
-      )
+      let whole = length-map found.1 (again_in part (kept symbols ++ more) c.self.inside.margin (d symbols)) in
+      let found_few = few-found c.acquisitions_are_late.ensures c.steps_are_lawful.ensures c.runs_are_lawful.ensures symbols_have_windows terms c.reach.ensures.range c.self.invariant.gaps
+      symbols c.runs_join.ensures c.runs_move.ensures more c.runs_give_few_items.ensures in
+      omega (arith, ap (λ (xs : List SoftItem). length xs) items_are, whole, found_few)
 
 pub counted-self-inside-requires : goal.counted-self-inside-requires
 counted-self-inside-requires g c =
