@@ -57,21 +57,19 @@ lightest_reached e c (suc n) s near =
 
 -- ---- all others
 
-others_by : (n w a b k f g flips x y lf lg : ℕ) (t : Bool)
+others_by : (n w a b k flips x y lf lg : ℕ) (t : Bool)
     → (((x ≤ w) × (flips ≢ lf → y ≤ w)) ⊎ ((rest : ℕ) × (flips ≡ 2 ^ n + rest) × (a + k ≤ w) × (rest ≢ lg → b + k ≤ w)))
     → flips ≢ elim t [ false ↦ lf | true ↦ 2 ^ n + lg ]
     → elim t [ false ↦ min (a + k) y | true ↦ min x (b + k) ] ≤ w
-others_by n w a b k f g flips x y lf lg t h other = grind (arith, common_steps, min-le_right, min-le_left)
+others_by n w a b k flips x y lf lg t h other = grind (arith, common_steps, min-le_right, min-le_left)
 
 pub others_weigh : (e c : ℕ → ℕ) (n s flips : ℕ) → Reach e n s flips → flips ≢ lightest e c n s → second e c n s ≤ weigh c n flips
 unfolding second lightest
 others_weigh e c zero s flips h other = absurd (other (omega (arith, h.small)))
 others_weigh e c (suc n) s flips h other =
     let t : ℕ = bit_xor s (e n) in
-    let by_way : ((least e c n s ≤ weigh c (suc n) flips) × (flips ≢ lightest e c n s → second e c n s ≤ weigh c (suc n) flips))
-    ⊎ ((rest : ℕ) × (flips ≡ 2 ^ n + rest) × (least e c n t + c n ≤ weigh c (suc n) flips)
-    × (rest ≢ lightest e c n t → second e c n t + c n ≤ weigh c (suc n) flips)) =
-    elim (ways e c n s flips h) [
+    others_by n (weigh c (suc n) flips) (least e c n t) (second e c n t) (c n) flips (least e c n s) (second e c n s)
+    (lightest e c n s) (lightest e c n t) (is_flipped e c n s) (elim (ways e c n s flips h) [
       | inl way ↦ inl (
         omega (arith, way.0.weight, least_below e c n s flips way.1),
         λ apart. omega (arith, way.0.weight, others_weigh e c n s flips way.1 apart),
@@ -82,9 +80,7 @@ others_weigh e c (suc n) s flips h other =
         omega (arith, way.1.weight, least_below e c n t way.0 way.2),
         λ apart. omega (arith, way.1.weight, others_weigh e c n t way.0 way.2 apart),
       )
-    ] in
-    others_by n (weigh c (suc n) flips) (least e c n t) (second e c n t) (c n) 0 0 flips (least e c n s) (second e c n s)
-    (lightest e c n s) (lightest e c n t) (is_flipped e c n s) by_way other
+    ]) other
 
 -- ---- some others weigh so much
 
