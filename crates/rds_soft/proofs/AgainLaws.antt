@@ -1,5 +1,5 @@
 -- The laws of symbols read as blocks, and of items read again.
-use Rattle.rds_soft.proofs.Names.{common_steps, ◌≡◌, ℕ, ◌+◌, ◌-◌, ◌<◌, ◌≤◌, Bool, true, false, List, length, get_or, take, drop, refl, sym, ap, ◌∙◌, subst, arith, bit_xor, length-take, length-drop, Some, None, ℤ, pos, nat_lt, not, ◌&&◌, if◌then◌else◌, number_from_digits, lt-ltb, ext_get_or, get_or-take, get_or-drop, Offset, Wanted, IsReading, information, reading, ReadsByRule, reading_at, window, heard, touched, length_of, Read, mask_of, hard_bit, hard_bits, hard_window, confidences, block_again, reading_heard, soft_reading, HasOneSoftReading, SymbolsHaveWindows, ReadsFromSymbols}
+use Rattle.rds_soft.proofs.Names.{common_steps, ◌≡◌, ℕ, ◌+◌, ◌-◌, ◌<◌, ◌≤◌, Bool, true, false, List, length, get_or, take, drop, refl, sym, ap, ◌∙◌, subst, arith, length-take, length-drop, Some, None, ℤ, pos, nat_lt, not, ◌&&◌, if◌then◌else◌, number_from_digits, lt-ltb, ext_get_or, get_or-take, get_or-drop, Offset, Wanted, IsReading, reading, ReadsByRule, window, heard, touched, length_of, Read, hard_bit, hard_bits, hard_window, confidences, block_again, reading_heard, soft_reading, HasOneSoftReading, SymbolsHaveWindows, ReadsFromSymbols}
 use Rattle.rds_soft.{specs.declared.soft_reading.SoftReading.TheVariants.Valid, specs.declared.soft_reading.SoftReading.TheVariants.Corrected, specs.declared.soft_reading.SoftReading.TheVariants.Lost, specs.declared.soft_item.SoftBlock.TheVariants.Read as SoftRead, proofs.NearestLaws.has_one_nearest, proofs.SymbolLemmas.bit_of, proofs.SymbolLemmas.bit_count}
 use mathlib.Core.Path.{ap₂}
 use Rattle.rds_code.specs.declared.reading.Reading.{Reading}
@@ -17,8 +17,7 @@ has_one_soft_reading symbols x wanted margin (Valid o i) Lost some one other = a
 has_one_soft_reading symbols x wanted margin (Corrected o i f) (Valid p j) some one other = absurd (one.0 p other.0)
 has_one_soft_reading symbols x wanted margin (Corrected o i f) (Corrected p j g) some one other =
     let same = has_one_nearest (hard_window symbols) x wanted (confidences symbols) margin o p f g some one.1 other.1 in
-    let info : j ≡ i = other.2 ∙ ap (λ (h : ℕ). information (bit_xor (hard_window symbols) (mask_of h))) same.1 ∙ sym one.2 in
-    ap (λ q. Corrected q j g) same.0 ∙ ap₂ (λ k h. Corrected o k h) info same.1
+    grind (arith, common_steps, same.0, same.1, one.2, other.2)
 has_one_soft_reading symbols x wanted margin (Corrected o i f) Lost some one other = absurd (other.1 o f one.1)
 has_one_soft_reading symbols x wanted margin Lost (Valid p j) some one other = absurd (one.0 p other.0)
 has_one_soft_reading symbols x wanted margin Lost (Corrected p j g) some one other = absurd (one.1 p g other.1)
@@ -88,9 +87,4 @@ reads_from_symbols law b symbols first x hard wanted limit margin low high few b
     let part : List ℤ = take 27 (drop first symbols) in
     let same : hard_window part ≡ window b.bits (first + 25) =
     sym (ap (λ (bs : List ℕ). window bs (first + 25)) bits ∙ symbols_have_windows symbols first within) in
-    let Goal : Bool → Bool → Type 0 = λ e t. block_again (if e && not (touched b (first + 25)) && t then Some part else None) x wanted margin
-    (Read (reading_at b (first + 25) x hard limit))
-    ≡ SoftRead (reading_heard (if e && not (touched b (first + 25)) && t then Some part else None) x wanted margin) in
-    let plain : Goal true true =
-    by_touch law (touched b (first + 25)) (window b.bits (first + 25)) x hard wanted limit margin part low high few same in
-    subst (λ (t : Bool). Goal (nat_lt (first + 25) (length_of b)) t) (sym there) (subst (λ (e : Bool). Goal e true) (sym ends) plain)
+    rw (ends, there) (by_touch law (touched b (first + 25)) (window b.bits (first + 25)) x hard wanted limit margin part low high few same)

@@ -1,6 +1,6 @@
 -- Flips of symbols, by the remainder of their mask: the sum of the effects.
 use Rattle.rds_soft.proofs.Names.{common_steps, ◌≡◌, ℕ, zero, suc, ◌+◌, ◌*◌, ◌/◌, ◌%◌, ◌^◌, ◌<◌, List, sym, ap, ◌∙◌, arith, bit_xor, inl, inr, xor_self, xor_assoc, xor_shifted, xor_comm, xor_shr, xor_mod, rem, IsLinear, mask_of, weight, effect, confidence, sum_of, weigh, least, lightest, second, Leads, AreLightest}
-use Rattle.rds_soft.proofs.{LightestLemmas.Reach, LightestLemmas.IsSplit, LightestLemmas.split_word, LightestLemmas.sum_without, LightestLemmas.sum_with, LightestLemmas.least_below, SecondLemmas.Weighs, SecondLemmas.lightest_reached, SecondLemmas.others_weigh, SecondLemmas.second_reached}
+use Rattle.rds_soft.proofs.{LightestLemmas.Reach, LightestLemmas.split, LightestLemmas.least_below, SecondLemmas.Weighs, SecondLemmas.lightest_reached, SecondLemmas.others_weigh, SecondLemmas.second_reached}
 
 -- (a xor b) xor (c xor d) is (a xor c) xor (b xor d)
 swap_inner : (a b c d : ℕ) → bit_xor (bit_xor a b) (bit_xor c d) ≡ bit_xor (bit_xor a c) (bit_xor b d)
@@ -29,22 +29,11 @@ joined linear n rest small =
 pub sum_is : IsLinear → (n flips : ℕ) → flips < 2 ^ n → sum_of effect n flips ≡ rem (mask_of flips)
 unfolding sum_of
 sum_is linear zero flips small = grind (arith, common_steps, rem_zero)
-sum_is linear (suc n) flips small =
-    let split = split_word n flips small in
-    by_bit split.0 split.1 split.2 (sum_is linear n split.1 split.2.rest_small)
-  where
-    by_bit : (bit rest : ℕ) → IsSplit n flips bit rest → sum_of effect n rest ≡ rem (mask_of rest)
-        → sum_of effect (suc n) flips ≡ rem (mask_of flips)
-    by_bit bit rest split below = elim split.bit_is [
-      | inl none ↦
-          let whole : flips ≡ 0 * 2 ^ n + rest = split.whole ∙ ap (λ (b : ℕ). b * 2 ^ n + rest) none in
-          let same : rest ≡ flips = omega (arith, whole) in
-          ap (sum_of effect (suc n)) whole ∙ sum_without effect n rest split.rest_small ∙ below ∙ ap (λ (f : ℕ). rem (mask_of f)) same
-      | inr one ↦
-          let whole : flips ≡ 1 * 2 ^ n + rest = split.whole ∙ ap (λ (b : ℕ). b * 2 ^ n + rest) one in
-          ap (sum_of effect (suc n)) whole ∙ sum_with effect n rest split.rest_small ∙ ap (λ (s : ℕ). bit_xor s (effect n)) below
-          ∙ joined linear n rest split.rest_small ∙ ap (λ (f : ℕ). rem (mask_of f)) (sym whole)
-    ]
+sum_is linear (suc n) flips small = elim (split effect effect n flips small) [
+  | inl low ↦ low.sum ∙ sum_is linear n flips low.small
+  | inr high ↦ high.1.sum ∙ ap (λ (s : ℕ). bit_xor s (effect n)) (sum_is linear n high.0 high.1.small)
+      ∙ joined linear n high.0 high.1.small ∙ ap (λ (f : ℕ). rem (mask_of f)) (omega (arith, high.1.whole))
+]
 
 pub weight_is : (confidences : List ℕ) (flips : ℕ) → weight confidences flips ≡ weigh (confidence confidences) 27 flips
 unfolding weigh

@@ -1,6 +1,6 @@
 -- The groups of a run end inside the part that the run is over, so they are read again there as in the whole.
-use Rattle.rds_sync.specs.{Groups.block_at, Groups.wanted_beside as hard_beside, declared.lock.Lock.Lock, Acquiring.acquired, Loss.IsLossRule, Loss.are_too_many}
-use Rattle.rds_soft.proofs.Names.{common_steps, ◌≡◌, ℕ, zero, suc, ◌+◌, ◌-◌, ◌*◌, ◌<◌, ◌≤◌, ◌∙◌, List, [], ◌∷◌, ◌++◌, Bool, true, false, Option, Some, None, ap, ap₂, arith, map, refl, subst, ⊤, ◌==◌, ℤ, eq-eqb, eqb-true, false≢true, Wanted, Either, Signal, State, Searching, Locked, Block, Item, Acquired, Group, LostLock, block_in, blocks_at, group, AreInOrder, IsLawful, AcquisitionsAreLate, StepsAreLawful, RuleNumbers, completed_group, history_after_block, items_at, items_of_end, lock_after, run, step, moved_item, moved_items, InSoft, first_bit, symbols_heard, was_read, block_again, group_again, item_again, wanted_beside, moved_again, ◌⊎◌}
+use Rattle.rds_sync.specs.{Groups.block_at, Groups.wanted_beside as hard_beside, Loss.IsLossRule}
+use Rattle.rds_soft.proofs.Names.{common_steps, ◌≡◌, ℕ, zero, suc, ◌+◌, ◌-◌, ◌*◌, ◌<◌, ◌≤◌, ◌∙◌, List, [], ◌∷◌, ◌++◌, Option, ap, ap₂, arith, map, refl, subst, ⊤, ℤ, eq-eqb, eqb-true, false≢true, Wanted, Either, Signal, State, Searching, Locked, Block, Item, Acquired, Group, LostLock, block_in, group, AreInOrder, IsLawful, AcquisitionsAreLate, StepsAreLawful, RuleNumbers, completed_group, items_at, items_of_end, run, step, moved_item, moved_items, InSoft, first_bit, symbols_heard, was_read, block_again, group_again, item_again, wanted_beside, moved_again, ◌⊎◌}
 
 -- ---- where blocks end
 
@@ -43,8 +43,9 @@ module _ (b : Signal) (rules : RuleNumbers) (i : ℕ) where
       → (was_read (block_at b rules f x i wanted n) ≡ 0) ⊎ ((was_read (block_at b rules f x i wanted n) ≡ 1) × (f ≤ n) × (n ≤ x))
   was-read f x wanted n = grind (arith, common_steps)
 
-  of_blocks : (f x : ℕ) → 1 ≤ f → f ≤ x → x ≤ 4 → 26 * (x - f) + 25 ≤ i → IsInside (i + 1) (i - 26 * (x - f) - 25) (blocks_at b rules f x i)
-  of_blocks f x low order high room =
+  group-inside : (f x : ℕ) → 1 ≤ f → f ≤ x → x ≤ 4 → 26 * (x - f) + 25 ≤ i → ItemInside (i + 1) (Group (group b rules f x i))
+  unfolding group
+  group-inside f x low order high room =
       let first = was-read f x Either 1 in
       let second = was-read f x Either 2 in
       let third = was-read f x (hard_beside (block_at b rules f x i Either 2)) 3 in
@@ -56,38 +57,15 @@ module _ (b : Signal) (rules : RuleNumbers) (i : ℕ) where
         four = λ read. grind (arith, room, high, first, second, third, fourth, read);
       }
 
-  group-inside : (f x : ℕ) → 1 ≤ f → f ≤ x → x ≤ 4 → 26 * (x - f) + 25 ≤ i → ItemInside (i + 1) (Group (group b rules f x i))
-  unfolding group
-  group-inside f x low order high room = of_blocks f x low order high room
-
   completed-inside : (f x : ℕ) → 1 ≤ f → f ≤ x → x ≤ 4 → 26 * (x - f) + 25 ≤ i → AllInside (i + 1) (completed_group b rules f x i)
   completed-inside f x low order high room = grind (arith, common_steps, group-inside)
-
-  search-inside : (found : Option ℕ) → ((x : ℕ) → found ≡ Some x → (51 ≤ i) × (1 ≤ x) × (x ≤ 4))
-      → AllInside (i + 1) (elim found as (λ _. State × List Item) [
-        | None ↦ (Searching, [])
-        | Some x ↦ (Locked (lock_after i x 0 x), Acquired i x ∷ completed_group b rules x x i)
-      ]).1
-  search-inside found late = grind (arith, common_steps, completed-inside)
 
   ordered : (f x : ℕ) → AreInOrder f x → (1 ≤ f) × (f ≤ x) × (x ≤ 4)
   ordered f x h = grind (arith, common_steps)
 
-  lock-inside : (lock : Lock) → IsLawful rules i (Locked lock) → (is_due lost : Bool) → (lock.due == i) ≡ is_due
-      → AllInside (i + 1) (elim is_due as (λ _. State × List Item) [
-        | false ↦ (Locked lock, [])
-        | true ↦ elim lost as (λ _. State × List Item) [
-          | false ↦
-              (Locked (lock_after i lock.number (history_after_block b rules i lock.number lock.bad) lock.first), completed_group b rules lock.first lock.number i)
-          | true ↦ (Searching, Group (group b rules lock.first lock.number i) ∷ LostLock i ∷ [])
-        ]
-      ]).1
-  lock-inside lock lawful is_due lost is = grind (arith, common_steps, eqb-true, ordered, completed-inside, group-inside)
-
   bit-inside : AcquisitionsAreLate → (s : State) → IsLawful rules i s → AllInside (i + 1) (items_at b rules i s)
-  bit-inside late Searching lawful = search-inside (acquired b rules i) (late b rules i)
-  bit-inside late (Locked lock) lawful =
-      lock-inside lock lawful (lock.due == i) (are_too_many rules.loss (history_after_block b rules i lock.number lock.bad)) refl
+  bit-inside late Searching lawful = grind (arith, common_steps, completed-inside, late b rules i)
+  bit-inside late (Locked lock) lawful = grind (arith, common_steps, eqb-true, ordered, completed-inside, group-inside)
 
 pub run-inside : AcquisitionsAreLate → StepsAreLawful → (b : Signal) (rules : RuleNumbers) → IsLossRule rules.loss
     → (s : State) (a bits : ℕ) → IsLawful rules a s → AllInside (a + bits) (run b rules s a bits).1

@@ -1,13 +1,10 @@
 -- Lanes of sixteen weights.
 use Rattle.rds_code.proofs.Membership.{each_below, EachBelow}
 use Rattle.std.proofs.{Math.Nat.mod-lt, lemmas.Nat.mod-pow-add, lemmas.Nat.pow_pos}
-use Rattle.rds_soft.proofs.Names.{common_steps, xor_comm, xor_assoc, ◌++◌, length, ◌≡◌, ℕ, ◌+◌, ◌*◌, ◌/◌, ◌%◌, ◌^◌, ◌<◌, ◌≤◌, List, Bool, cond, ltb, get_or, sym, ap, subst, ◌∙◌, arith, rules, bit_xor, min, refl, ◌-◌, inl, inr, min-eq_left, min-eq_right, cases_lt, T, all_below, pick_l, xor_lt, xor_block, pick_l_left, xor_zero_r}
-
-by_test : (t : Bool) (a b : ℕ) → t ≡ ltb a b → cond t a b ≡ min a b
-by_test t a b is = grind (arith, common_steps, rules, min-eq_left, min-eq_right, ltb)
+use Rattle.rds_soft.proofs.Names.{common_steps, xor_comm, xor_assoc, ◌++◌, length, ◌≡◌, ℕ, ◌+◌, ◌*◌, ◌/◌, ◌%◌, ◌^◌, ◌<◌, ◌≤◌, List, cond, ltb, get_or, sym, ap, subst, ◌∙◌, arith, rules, bit_xor, min, ◌-◌, inl, inr, min-eq_left, min-eq_right, cases_lt, T, all_below, pick_l, xor_lt, xor_block, pick_l_left, xor_zero_r}
 
 pub lesser_is : (a b : ℕ) → cond (ltb a b) a b ≡ min a b
-lesser_is a b = by_test (ltb a b) a b refl
+lesser_is a b = grind (arith, common_steps, rules, min-eq_left, min-eq_right, ltb)
 
 -- an effect permutes blocks of sixteen, and the places in each
 pub sum_turned : (block j e : ℕ) → j < 16 → 16 * bit_xor block (e / 16) + bit_xor j (e % 16) ≡ bit_xor (16 * block + j) e

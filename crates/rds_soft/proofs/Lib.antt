@@ -4,7 +4,6 @@ pub mod SecondLemmas
 pub mod FlipLemmas
 pub mod RowLemmas
 pub mod WalkLemmas
-pub mod StepLemmas
 pub mod NearestLemmas
 pub mod NearestLaws
 pub mod LaneLemmas

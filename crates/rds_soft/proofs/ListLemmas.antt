@@ -9,19 +9,19 @@ item-stays others item entry among = elim (cases_lt entry.place (2 ^ 63)) [
   | inr late ↦ rw (le-ltb entry.place (2 ^ 63) late) (get_or_append_left others (item ∷ []) (SoftLostLock 0) (entry.place - 2 ^ 63) (among late))
 ]
 
-items-stay : (others : List SoftItem) (item : SoftItem) (entries : List ValidGroup) → All (IsAmong (length others)) entries
+pub items_stay : (others : List SoftItem) (item : SoftItem) (entries : List ValidGroup) → All (IsAmong (length others)) entries
     → items_at (others ++ item ∷ []) entries ≡ items_at others entries
-items-stay others item [] among = refl
-items-stay others item (entry ∷ entries) among =
+items_stay others item [] among = refl
+items_stay others item (entry ∷ entries) among =
     ap₂ (λ (x : SoftItem) (xs : List SoftItem). x ∷ xs) (item-stays others item entry (All-head (IsAmong (length others)) entry entries among))
-    (items-stay others item entries (All-tail (IsAmong (length others)) entry entries among))
+    (items_stay others item entries (All-tail (IsAmong (length others)) entry entries among))
 
 pub items_pushed : (others : List SoftItem) (item : SoftItem) (entries : List ValidGroup) (entry : ValidGroup) → entry.place ≡ 2 ^ 63 + length others → All (IsAmong (length others)) entries
     → items_at (others ++ item ∷ []) (entries ++ entry ∷ []) ≡ items_at others entries ++ item ∷ []
 items_pushed others item entries entry at among =
     let number : entry.place - 2 ^ 63 ≡ length others = omega (arith, at) in
     map-append (item_at (others ++ item ∷ [])) entries (entry ∷ [])
-    ∙ ap₂ (λ (xs : List SoftItem) (x : SoftItem). xs ++ x ∷ []) (items-stay others item entries among)
+    ∙ ap₂ (λ (xs : List SoftItem) (x : SoftItem). xs ++ x ∷ []) (items_stay others item entries among)
     (rw (le-ltb entry.place (2 ^ 63) (omega (arith, at)), number) (get_or_push others item (SoftLostLock 0) (length others) refl))
 
 -- a group of four valid blocks stays as it is

@@ -11,6 +11,6 @@ pub use Rattle.rds_stream.specs.Recording.{AreGaps, Signal, bits_of, is_touched_
 unfoldable pub use Rattle.rds_stream.specs.Recording.{heard, touched, window}
 pub use Rattle.rds_sync.specs.{Groups.block_in, Groups.blocks_at, Lawful.AreInOrder, Lawful.IsLawful, Laws.AcquisitionsAreLate, Laws.RunsAreLawful, Laws.RunsAreReports, Laws.RunsGiveFewItems, Laws.RunsJoin, Laws.StepsAreLawful, Rules.RuleNumbers, Step.completed_group, Step.history_after_block, Step.items_at, Step.items_of_end, Step.lock_after, Step.run, Step.step, declared.item.Block.Block, declared.item.Block.TheVariants.Missing, declared.item.Block.TheVariants.Read, declared.item.Item.Item, declared.item.Item.TheVariants.Acquired, declared.item.Item.TheVariants.Group, declared.item.Item.TheVariants.LostLock, declared.state.State.State, declared.state.State.TheVariants.Locked, declared.state.State.TheVariants.Searching}
 unfoldable pub use Rattle.rds_sync.specs.Groups.{group}
-pub use Rattle.rds_soft.specs.ReadAgain.{Turn, block_again, first_bit, group_again, lighter, own_of, reading_by, reading_heard, reading_or, symbols_heard, symbols_of, turn_of, turn_third, turn_to, was_read, within}
-pub use Rattle.rds_soft.specs.{Inside.Lightest.AreLightest, Inside.Lightest.Leads, Inside.Lightest.confidence, Inside.Lightest.effect, Inside.Lightest.effect as the_effect, Inside.Lightest.is_flipped, Inside.Lightest.of_none, Inside.Nearer.AreNearest, Inside.Nearer.TurnTo, Inside.Packed.sign_at, Inside.Rows.AreLeast, Inside.Rows.AreRows, Inside.Rows.Follows, Inside.Rows.IsFirst, Inside.Rows.IsWalk, Inside.Streams.Knows, Inside.Streams.again_in, Inside.Streams.last_symbols, Inside.Streams.most_kept, Inside.Streams.moved_again, Inside.Streams.part_of, Inside.Streams.place_again, Laws.CorrectsSent, Laws.HasOneNearest, Laws.HasOneSoftReading, Laws.NoneTurnsValid, Laws.ReadsFromSymbols, Laws.SureSymbolsStay, Laws.SymbolsAreReadSo, Laws.SymbolsHaveWindows, Nearest.IsCorrection, Nearest.IsNearest, Nearest.Turns, Nearest.mask_of, Nearest.weight, SoftGroups.group_of, SoftGroups.wanted_beside, SoftStream.SoftHeard, SoftStream.SoftTerms, SoftStream.complete, SoftStream.group_item, SoftStream.read_again, SoftStream.report_of, SoftStream.run_of, SoftStream.signal_of, SoftTotals.AreAtMost, SoftTotals.plus, SoftTotals.soft_totals_of, Symbols.IsSoftReading, Symbols.confidences, Symbols.hard_bit, Symbols.hard_bits, Symbols.hard_window, Symbols.sign, declared.soft_item.SoftBlock.SoftBlock, declared.soft_item.SoftGroup.SoftGroup, declared.soft_item.SoftItem.SoftItem, declared.soft_item.SoftItem.TheVariants.Acquired as SoftAcquired, declared.soft_item.SoftItem.TheVariants.Group as InSoft, declared.soft_item.SoftItem.TheVariants.LostLock as SoftLostLock}
+pub use Rattle.rds_soft.specs.ReadAgain.{block_again, first_bit, group_again, lighter, own_of, reading_by, reading_heard, reading_or, symbols_heard, symbols_of, turn_of, turn_third, turn_to, was_read, within}
+pub use Rattle.rds_soft.specs.{Inside.Lightest.AreLightest, Inside.Lightest.Leads, Inside.Lightest.confidence, Inside.Lightest.effect, Inside.Lightest.effect as the_effect, Inside.Lightest.is_flipped, Inside.Lightest.of_none, Inside.Packed.chunk_of, Inside.Packed.sign_at, Inside.Rows.AreLeast, Inside.Rows.AreRows, Inside.Rows.Follows, Inside.Rows.IsWalk, Inside.Streams.Knows, Inside.Streams.again_in, Inside.Streams.near_again, Inside.Streams.last_symbols, Inside.Streams.most_kept, Inside.Streams.moved_again, Inside.Streams.part_of, Inside.Streams.place_again, Laws.CorrectsSent, Laws.HasOneNearest, Laws.HasOneSoftReading, Laws.NoneTurnsValid, Laws.ReadsFromSymbols, Laws.SureSymbolsStay, Laws.SymbolsAreReadSo, Laws.SymbolsHaveWindows, Nearest.IsCorrection, Nearest.IsNearest, Nearest.Turns, Nearest.mask_of, Nearest.weight, SoftGroups.group_of, SoftGroups.wanted_beside, SoftStream.SoftHeard, SoftStream.SoftTerms, SoftStream.complete, SoftStream.group_item, SoftStream.read_again, SoftStream.report_of, SoftStream.run_of, SoftStream.signal_of, SoftTotals.AreAtMost, SoftTotals.plus, SoftTotals.soft_totals_of, Symbols.IsSoftReading, Symbols.confidences, Symbols.hard_bit, Symbols.hard_bits, Symbols.hard_window, Symbols.sign, declared.soft_item.SoftBlock.SoftBlock, declared.soft_item.SoftGroup.SoftGroup, declared.soft_item.SoftItem.SoftItem, declared.soft_item.SoftItem.TheVariants.Acquired as SoftAcquired, declared.soft_item.SoftItem.TheVariants.Group as InSoft, declared.soft_item.SoftItem.TheVariants.LostLock as SoftLostLock}
 unfoldable pub use Rattle.rds_soft.specs.{Inside.Lightest.least, Inside.Lightest.lightest, Inside.Lightest.second, Inside.Lightest.sum_of, Inside.Lightest.weigh, ReadAgain.correction, ReadAgain.item_again, ReadAgain.soft_reading}

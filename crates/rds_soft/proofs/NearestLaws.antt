@@ -1,6 +1,6 @@
 -- The laws of the nearest block.
 use Rattle.rds_soft.proofs.Names.{common_steps, ◌≡◌, ◌≢◌, ℕ, zero, suc, ◌+◌, ◌-◌, ◌*◌, ◌%◌, ◌^◌, ◌<◌, ◌≤◌, List, sym, ap, ◌∙◌, arith, bit_xor, ◌⊎◌, inl, inr, lit<, xor_assoc, xor_zero_l, xor_zero_r, cases_eq, xor_lt, bit_at-lt, bit_at_xor, Offset, Wanted, rem, word, mask_of, weight, Turns, NoneTurnsValid, HasOneNearest, SureSymbolsStay, CorrectsSent, confidence, weigh}
-use Rattle.rds_soft.proofs.{LightestLemmas.undone, LightestLemmas.split_word, LightestLemmas.IsSplit, LightestLemmas.weigh_without, LightestLemmas.weigh_with, FlipLemmas.mask_xor, FlipLemmas.weight_is}
+use Rattle.rds_soft.proofs.{LightestLemmas.undone, LightestLemmas.split, FlipLemmas.mask_xor, FlipLemmas.weight_is}
 
 -- ---- valid windows
 
@@ -26,22 +26,10 @@ has_one_nearest w x wanted confidences margin o p f g some h k = elim (cases_eq 
 
 heavy : (c : ℕ → ℕ) (n flips : ℕ) → ((k : ℕ) → k < n → 127 < c k) → flips < 2 ^ n → flips ≢ 0 → 127 < weigh c n flips
 heavy c zero flips sure small some = absurd (some (omega (arith, small)))
-heavy c (suc n) flips sure small some =
-    let split = split_word n flips small in
-    by_bit split.0 split.1 split.2 (λ more. heavy c n split.1 (λ k less. sure k (omega (arith, less))) split.2.rest_small more)
-  where
-    by_bit : (bit rest : ℕ) → IsSplit n flips bit rest → (rest ≢ 0 → 127 < weigh c n rest) → 127 < weigh c (suc n) flips
-    by_bit bit rest split below = elim split.bit_is [
-      | inl none ↦
-          let whole : flips ≡ 0 * 2 ^ n + rest = split.whole ∙ ap (λ (b : ℕ). b * 2 ^ n + rest) none in
-          let same : flips ≡ rest = omega (arith, whole) in
-          let weighs : weigh c (suc n) flips ≡ weigh c n rest = ap (weigh c (suc n)) whole ∙ weigh_without c n rest split.rest_small in
-          omega (arith, weighs, below (λ is. some (same ∙ is)))
-      | inr one ↦
-          let whole : flips ≡ 1 * 2 ^ n + rest = split.whole ∙ ap (λ (b : ℕ). b * 2 ^ n + rest) one in
-          let weighs : weigh c (suc n) flips ≡ c n + weigh c n rest = ap (weigh c (suc n)) whole ∙ weigh_with c n rest split.rest_small in
-          omega (arith, weighs, sure n (omega arith))
-    ]
+heavy c (suc n) flips sure small some = elim (split c c n flips small) [
+  | inl low ↦ omega (arith, low.weight, heavy c n flips (λ k less. sure k (omega (arith, less))) low.small some)
+  | inr high ↦ omega (arith, high.1.weight, sure n (omega arith))
+]
 
 pub sure_symbols_stay : SureSymbolsStay
 sure_symbols_stay w x wanted confidences margin o flips sure h = elim (cases_eq flips 0) [
@@ -69,13 +57,9 @@ together c (suc n) f g = grind (arith, common_steps, bit_at_xor, one_symbol, bit
 
 weight_together : (confidences : List ℕ) (f g : ℕ) → weight confidences (bit_xor f g) ≤ weight confidences f + weight confidences g
 weight_together confidences f g =
-    omega (
-      arith,
-      weight_is confidences (bit_xor f g),
-      weight_is confidences f,
-      weight_is confidences g,
-      together (confidence confidences) 27 f g,
-    )
+    let least = together (confidence confidences) 27 f g in
+    let both = weight_is confidences (bit_xor f g) in
+    omega (arith, both, least, weight_is confidences f, weight_is confidences g)
 
 -- flips that turn the received window turn the sent one, together with the wrong symbols
 both_turn : (b x : ℕ) (wanted : Wanted) (p : Offset) (wrong any : ℕ) → wrong < 2 ^ 27

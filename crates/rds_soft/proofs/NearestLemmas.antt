@@ -1,10 +1,22 @@
 -- From the lightest flips of each offset to the nearest block.
-use Rattle.rds_soft.proofs.Names.{common_steps, ◌≡◌, ◌≢◌, ℕ, ◌+◌, ◌<◌, ◌≤◌, List, refl, sym, ap, ◌∙◌, arith, bit_xor, min, subst, ◌⊎◌, inl, inr, IsTrue, xor_self, xor_assoc, xor_zero_l, min-le_left, min-le_right, min-eq_left, min-eq_right, cases_lt, cases_eq, false≢true, Offset, A, B, C, Cx, D, Wanted, OnlyC, OnlyCx, Either, rem, word, number, allows, IsLinear, mask_of, weight, Turns, IsNearest, effect, confidence, Leads, AreLightest, of_none, least, lightest, second, IsWalk, TurnTo, AreNearest}
-use Rattle.rds_soft.proofs.{FlipLemmas.are_lightest, LightestLemmas.least_small}
+use Rattle.rds_soft.proofs.Names.{common_steps, ◌≡◌, ◌≢◌, ℕ, zero, suc, ◌+◌, ◌<◌, ◌≤◌, List, refl, sym, ap, ◌∙◌, arith, bit_xor, min, subst, ◌⊎◌, inl, inr, IsTrue, xor_self, xor_assoc, xor_zero_l, min-le_left, min-le_right, min-eq_left, min-eq_right, cases_lt, cases_eq, false≢true, Offset, C, Cx, Wanted, OnlyC, OnlyCx, Either, rem, word, number, allows, IsLinear, mask_of, weight, Turns, IsNearest, effect, confidence, Leads, AreLightest, of_none, least, lightest, second, IsWalk, turn_to}
+use Rattle.rds_soft.{proofs.LightestLemmas.least_small, specs.declared.nearest.Turn.Turn}
 
 -- a xor (a xor b) is b
 twice : (a b : ℕ) → bit_xor a (bit_xor a b) ≡ b
 twice a b = sym (xor_assoc a a b) ∙ ap (λ (n : ℕ). bit_xor n b) (xor_self a) ∙ xor_zero_l b
+
+-- the lightest flips that turn w into a block with the offset o
+abbrev pub TurnTo : ℕ → List ℕ → Offset → ℕ → ℕ → ℕ → Type 0
+TurnTo w confidences o flips least others = AreLightest confidences (bit_xor (rem w) (word o)) least flips others
+
+-- the lightest flips that turn w into block x with a wanted offset, and the least weight of any others, each known below 255
+pub record AreNearest (w x : ℕ) (wanted : Wanted) (confidences : List ℕ) (o : Offset) (flips least others : ℕ) : Type 0 where
+  pub found : least < 255 → Turns w x wanted o flips × (weight confidences flips ≡ least)
+  pub none_lighter : (p : Offset) (any : ℕ) → Turns w x wanted p any → least ≤ weight confidences any
+  pub others_weigh : (p : Offset) (any : ℕ) → Turns w x wanted p any → any ≢ flips → others ≤ weight confidences any
+  pub other : others < 255
+      → (p : Offset) × (any : ℕ) × Turns w x wanted p any × (any ≢ flips) × (weight confidences any ≡ others)
 
 -- ---- flips that turn a window have the sum of its remainder and the offset word
 
@@ -17,40 +29,39 @@ turns linear w x wanted o flips own allowed h = grind (arith, common_steps, twic
 
 -- ---- the end of the look back
 
-none_least : (e c : ℕ → ℕ) (s : ℕ) → least e c 0 s ≡ of_none s
-unfolding least
-none_least e c s = refl
+at_none : (e c : ℕ → ℕ) (s : ℕ) → (least e c 0 s ≡ of_none s) × (lightest e c 0 s ≡ 0) × (second e c 0 s ≡ 255)
+unfolding least lightest second
+at_none e c s = (refl, refl, refl)
 
-none_lightest : (e c : ℕ → ℕ) (s : ℕ) → lightest e c 0 s ≡ 0
-unfolding lightest
-none_lightest e c s = refl
+far : (s : ℕ) → s ≢ 0 → of_none s ≡ 255
+far zero some = absurd (some refl)
+far (suc s) some = refl
 
-none_second : (e c : ℕ → ℕ) (s : ℕ) → second e c 0 s ≡ 255
-unfolding second
-none_second e c s = refl
+module _ (w : ℕ) (cs : List ℕ) (o : Offset) (s left flips spent others : ℕ) (walk : IsWalk effect (confidence cs) s 0 left flips spent others)
+    (sum : s ≡ bit_xor (rem w) (word o)) where
+  turn_at : ℕ → Turn
+  turn_at t = record {
+    offset = o;
+    flips = lightest effect (confidence cs) 27 t;
+    weight = least effect (confidence cs) 27 t;
+    others = second effect (confidence cs) 27 t;
+  }
 
-walk_ends_at : IsLinear → (confidences : List ℕ) (s left flips spent others weight : ℕ)
-    → IsWalk effect (confidence confidences) s 0 left flips spent others → weight ≡ spent + of_none left
-    → AreLightest confidences s weight flips others
-walk_ends_at linear confidences s left flips spent others weight h is =
-    let c : ℕ → ℕ = confidence confidences in
-    let least_is : least effect c 27 s ≡ weight = h.weight_is ∙ ap (λ (k : ℕ). spent + k) (none_least effect c left) ∙ sym is in
-    let flips_are : lightest effect c 27 s ≡ flips = omega (arith, h.flips_are, none_lightest effect c left) in
-    let second_is : second effect c 27 s ≡ others = omega (arith, h.others_are, h.most, none_second effect c left) in
-    subst (λ (k : ℕ). AreLightest confidences s weight flips k) second_is
-    (subst (λ (k : ℕ). AreLightest confidences s weight k (second effect c 27 s)) flips_are
-    (subst (λ (k : ℕ). AreLightest confidences s k (lightest effect c 27 s) (second effect c 27 s)) least_is
-    (are_lightest linear confidences s)))
+  ends : (weight : ℕ) → weight ≡ least effect (confidence cs) 27 s → record { offset = o; flips = flips; weight = weight; others = others } ≡ turn_to w cs o
+  unfolding turn_at
+  ends weight is =
+      let none = at_none effect (confidence cs) left in
+      let flips_are : flips ≡ lightest effect (confidence cs) 27 s = omega (arith, walk.flips_are, none.1) in
+      let others_are : others ≡ second effect (confidence cs) 27 s = omega (arith, walk.others_are, walk.most, none.2) in
+      (λ j. record { offset = o; flips = flips_are j; weight = is j; others = others_are j }) ∙ ap turn_at sum
 
--- no sum is left
-pub walk_ends : IsLinear → (confidences : List ℕ) (s left flips spent others : ℕ)
-    → IsWalk effect (confidence confidences) s 0 left flips spent others → left ≡ 0 → AreLightest confidences s spent flips others
-walk_ends linear confidences s left flips spent others h none = grind (arith, common_steps, walk_ends_at)
+  -- no sum is left
+  pub walk_ends : left ≡ 0 → record { offset = o; flips = flips; weight = spent; others = others } ≡ turn_to w cs o
+  walk_ends none = ends spent (omega (arith, walk.weight_is, (at_none effect (confidence cs) left).0, ap of_none none))
 
--- a sum is left: no flips known below 255 have it
-pub walk_fails : IsLinear → (confidences : List ℕ) (s left flips spent others : ℕ)
-    → IsWalk effect (confidence confidences) s 0 left flips spent others → left ≢ 0 → AreLightest confidences s 255 flips others
-walk_fails linear confidences s left flips spent others h some = grind (arith, common_steps, none_least, least_small, walk_ends_at)
+  -- a sum is left: no flips known below 255 have it
+  pub walk_fails : left ≢ 0 → record { offset = o; flips = flips; weight = 255; others = others } ≡ turn_to w cs o
+  walk_fails some = ends 255 (omega (arith, walk.weight_is, (at_none effect (confidence cs) left).0, far left some, least_small effect (confidence cs) 27 s))
 
 -- ---- one offset is wanted
 
@@ -134,35 +145,20 @@ none_beside w x wanted confidences margin o flips least others h few near close 
     let rival_least : least ≤ others = omega (arith, h.none_lighter rival.0 rival.1 rival.2, rival.4) in
     elim (cases_eq any flips) [
       | inl same ↦
-          let weighs : weight confidences any ≡ least = ap (weight confidences) same ∙ it.1 in
-          omega (
-            arith,
-            weighs,
-            close,
-            rival.4,
-            nearest.alone rival.0 rival.1 rival.2 (λ is. rival.3 (is ∙ same)),
-          )
+          let far = nearest.alone rival.0 rival.1 rival.2 (λ is. rival.3 (is ∙ same)) in
+          omega (arith, ap (weight confidences) same, it.1, close, rival.4, far)
       | inr apart ↦
-          omega (
-            arith,
-            close,
-            rival_least,
-            it.1,
-            h.others_weigh p any nearest.turns apart,
-            nearest.alone o flips it.0 (λ is. apart (sym is)),
-          )
+          let far = nearest.alone o flips it.0 (λ is. apart (sym is)) in
+          omega (arith, close, rival_least, it.1, far, h.others_weigh p any nearest.turns apart)
     ]
 
 -- ---- which offsets are wanted
 
-pub only_A : (wanted : Wanted) (p : Offset) → number p ≡ 1 → IsTrue (allows wanted p) → p ≡ A
-only_A wanted p own allowed = grind (arith, common_steps)
+pub only : (o p : Offset) → number p ≡ number o → number o ≢ 3 → p ≡ o
+only o p own apart = grind (arith, common_steps)
 
-pub only_B : (wanted : Wanted) (p : Offset) → number p ≡ 2 → IsTrue (allows wanted p) → p ≡ B
-only_B wanted p own allowed = grind (arith, common_steps)
-
-pub only_D : (wanted : Wanted) (p : Offset) → number p ≡ 4 → IsTrue (allows wanted p) → p ≡ D
-only_D wanted p own allowed = grind (arith, common_steps)
+pub allowed : (wanted : Wanted) (o : Offset) → number o ≢ 3 → IsTrue (allows wanted o)
+allowed wanted o apart = grind (arith, common_steps)
 
 pub only_C : (p : Offset) → number p ≡ 3 → IsTrue (allows OnlyC p) → p ≡ C
 only_C p own allowed = grind (arith, common_steps, false≢true)
@@ -188,28 +184,3 @@ pub nearer_Cx : IsLinear → (w : ℕ) (confidences : List ℕ) (f g a b m n : �
 nearer_Cx linear w confidences f g a b m n h k le =
     nearer_of_two linear w 3 Either confidences Cx C g f b a n m refl refl refl refl (λ same. absurd (omega (arith, same)))
     (λ p own. elim (C_or_Cx p own) [ inl same ↦ inr same | inr same ↦ inl same ]) k h le
-
--- ---- a block with one wanted offset, by the offset of the turn
-
-pub at_one : IsLinear → (w x : ℕ) (wanted : Wanted) (confidences : List ℕ) (o p : Offset) (flips least others : ℕ) → p ≡ o
-    → number o ≡ x → IsTrue (allows wanted o) → ((p : Offset) → number p ≡ x → IsTrue (allows wanted p) → p ≡ o)
-    → TurnTo w confidences o flips least others → AreNearest w x wanted confidences p flips least others
-at_one linear w x wanted confidences o p flips least others same own allowed alone h = grind (arith, common_steps, only_one)
-
-pub A_allowed : (wanted : Wanted) → IsTrue (allows wanted A)
-A_allowed wanted = grind (arith, common_steps)
-
-pub B_allowed : (wanted : Wanted) → IsTrue (allows wanted B)
-B_allowed wanted = grind (arith, common_steps)
-
-pub D_allowed : (wanted : Wanted) → IsTrue (allows wanted D)
-D_allowed wanted = grind (arith, common_steps)
-
--- a block that is not 1, 2 or 4
-pub is_third : (n m : ℕ) → m ≡ n → 1 ≤ m → m ≤ 4 → (m ≢ 1) → (m ≢ 2) → (m ≢ 4) → n ≡ 3
-is_third n m same low high one two four = omega (arith, same, low, high, one, two, four)
-
--- block 3, by its number and what is wanted
-pub of_third : (w n : ℕ) (wanted given : Wanted) (confidences : List ℕ) (o : Offset) (flips least others : ℕ) → n ≡ 3 → given ≡ wanted
-    → AreNearest w 3 wanted confidences o flips least others → AreNearest w n given confidences o flips least others
-of_third w n wanted given confidences o flips least others is same h = grind (arith, common_steps)

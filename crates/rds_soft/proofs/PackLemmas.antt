@@ -1,16 +1,14 @@
 -- Bits that are packed from the signs of bytes.
 use Rattle.rds_code.proofs.Membership.{each_below}
+use Rattle.rds_soft.proofs.SymbolLemmas.{sign_lt}
 use Rattle.rds_stream.proofs.BitOrder.{shr_bit}
-use Rattle.rds_soft.proofs.Names.{common_steps, ◌≡◌, ℕ, ◌+◌, ◌-◌, ◌*◌, ◌/◌, ◌%◌, ◌<◌, ◌++◌, ◌^◌, List, [], ◌∷◌, Bool, cond, ltb, length, drop, min, ap, refl, sym, ◌∙◌, arith, lit<, bit_xor, true, false, inl, inr, length-append, length-drop, ℤ, pos, slice_index, if◌then◌else◌, bit_at, cast_signed, is_positive, w8, cases_lt, le-ltb, lt-ltb, to_z_pos, min-eq_left, min-eq_right, get_or-map, get_or-drop, get_or_append_left, get_or-append-add, drop-drop, drop_all, packed_bit, xor_lt, bit_at_xor, bit_at_lowest, bit_at_cat_low, bit_at_cat_high, symbols_of, sign, hard_bit, sign_at}
+use Rattle.rds_soft.proofs.Names.{common_steps, ◌≡◌, ℕ, ◌+◌, ◌-◌, ◌*◌, ◌/◌, ◌%◌, ◌<◌, ◌++◌, ◌^◌, List, [], ◌∷◌, Bool, cond, ltb, length, drop, min, ap, refl, sym, ◌∙◌, arith, lit<, bit_xor, inl, inr, length-append, length-drop, pos, slice_index, if◌then◌else◌, bit_at, cast_signed, w8, cases_lt, le-ltb, lt-ltb, to_z_pos, min-eq_left, min-eq_right, get_or-map, get_or-drop, get_or_append_left, get_or-append-add, drop-drop, drop_all, packed_bit, xor_lt, bit_at_xor, bit_at_lowest, bit_at_cat_low, bit_at_cat_high, symbols_of, sign, hard_bit, sign_at}
 use mathlib.Core.Path.{ap₂}
 use Rattle.std.proofs.{Math.Nat.mod-lt, lemmas.Nat.pow_pos, lemmas.Nat.shr_split}
 use Rattle.std.specs.Int.{to_be_bytes, w64}
 use Rattle.std.proofs.Math.Facts.{to_z-neg}
 
 -- ---- signs
-
-sign_lt : (r : ℤ) → sign r < 2
-sign_lt r = elim (is_positive r) as (λ b. (if b then 1 else 0) < 2) [ true ↦ lit< tt | false ↦ lit< tt ]
 
 -- the sum of two digits without a carry
 sum_of_digits : (x y : ℕ) → x < 2 → y < 2 → (x + y) % 2 ≡ bit_xor x y

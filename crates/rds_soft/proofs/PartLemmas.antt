@@ -1,15 +1,13 @@
 -- A part of a stream of symbols: the bits between its symbols, what is heard of them, and the symbols of its blocks.
-use Rattle.rds_soft.proofs.Names.{◌≡◌, ◌+◌, ◌-◌, ◌<◌, ◌≤◌, ◌++◌, ◌⊎◌, ◌∙◌, ℕ, List, Bool, Option, Some, None, true, false, ap, ap₂, arith, drop, length, sym, take, ℤ, nat_lt, not, ◌&&◌, if◌then◌else◌, list_any, cast_signed, w8, lt-ltb, drop-append-le, drop-drop, ext_get_or, length-drop, length-map, map-append, take-append-le, get_or-map-range_with_len, length-map-range_with_len, Signal, bits_of, heard, is_touched_by, length_of, packed_bit, touched, window, IsPartHeard, most_behind, TouchAlike, SymbolsHaveWindows, symbols_of, hard_bit, hard_bits, hard_window}
+use Rattle.rds_soft.proofs.Names.{◌≡◌, refl, ◌+◌, ◌-◌, ◌<◌, ◌≤◌, ◌++◌, ◌⊎◌, ◌∙◌, ℕ, List, Bool, Option, Some, None, true, false, ap, ap₂, arith, drop, length, sym, take, ℤ, nat_lt, list_any, cast_signed, w8, lt-ltb, drop-append-le, drop-drop, ext_get_or, length-drop, length-map, map-append, take-append-le, get_or-map-range_with_len, length-map-range_with_len, Signal, bits_of, heard, is_touched_by, length_of, packed_bit, touched, window, IsPartHeard, most_behind, TouchAlike, SymbolsHaveWindows, symbols_of, hard_bit, hard_bits, hard_window}
 use Rattle.rds_soft.proofs.InsideLemmas.{AreSymbolsOf}
+pub use Rattle.rds_soft.proofs.SymbolLemmas.{bit_count as length-bits}
 use Rattle.std.proofs.lemmas.List.{drop-map}
 
 -- ---- bits
 
 pub length-symbols : (symbols : List ℕ) → length (symbols_of symbols) ≡ length symbols
 length-symbols symbols = length-map symbols (cast_signed w8)
-
-pub length-bits : (symbols : List ℤ) → length (hard_bits symbols) ≡ length symbols - 1
-length-bits symbols = length-map-range_with_len (hard_bit symbols) 0 (length symbols - 1)
 
 -- packed bits that are those of symbols
 pub bits-are : (packed symbols : List ℕ) (n : ℕ) → n ≡ length symbols - 1 → ((i : ℕ) → i + 1 < length symbols → packed_bit packed i ≡ hard_bit (symbols_of symbols) i)
@@ -23,9 +21,6 @@ bits-are packed symbols n is same =
     ∙ sym (get_or-map-range_with_len (hard_bit (symbols_of symbols)) 0 (length (symbols_of symbols) - 1) i i 0 (omega (arith, within, all)) (omega arith)))
 
 -- ---- a part and the whole
-
-abbrev heard_by : Bool → Bool → Bool → List ℤ → Option (List ℤ)
-heard_by ends touches there symbols = if ends && not touches && there then Some symbols else None
 
 -- the symbols P with these gaps are those of W from number d on, with the gaps there
 module _ (windows : SymbolsHaveWindows) (gaps of_part : List (ℕ × ℕ)) (P W later : List ℕ) (d : ℕ) (alike : TouchAlike d (length P - 1) gaps of_part)
@@ -91,6 +86,4 @@ module _ (windows : SymbolsHaveWindows) (gaps of_part : List (ℕ × ℕ)) (P W 
       lt-ltb (first + 26) (length (S P)) (omega (arith, length-symbols P, early))
       ∙ sym (lt-ltb (first + d + 26) (length (S W)) (omega (arith, length-symbols W, reach, early))) in
       let same = same-symbols first (omega (arith, early)) in
-      ap (λ (e : Bool). heard_by e (touched part (first + 25)) (nat_lt (first + 26) (length (S P))) (take 27 (drop first (S P)))) ends
-      ∙ ap (λ (t : Bool). heard_by (nat_lt (first + d + 25) (length_of whole)) t (nat_lt (first + 26) (length (S P))) (take 27 (drop first (S P)))) touches
-      ∙ ap₂ (λ (h : Bool) (xs : List ℤ). heard_by (nat_lt (first + d + 25) (length_of whole)) (touched whole (first + d + 25)) h xs) there same
+      rw (ends, touches, there, same) refl

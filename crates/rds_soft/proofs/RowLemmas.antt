@@ -1,9 +1,5 @@
 -- A row that follows one of least weights has those with one symbol more.
-use Rattle.rds_soft.proofs.Names.{◌≡◌, ℕ, suc, ◌+◌, ◌<◌, ◌≤◌, List, [], sym, ap, ◌∙◌, arith, bit_xor, min, length, slice_index, get_or, set, subst, inl, inr, xor_lt, cases_lt, get_or-set_same, get_or-set_other, least, IsFirst, Follows, AreLeast}
-
-pub first_are_least : (e c : ℕ → ℕ) (row : List ℕ) → IsFirst row → AreLeast e c 0 row
-unfolding least
-first_are_least e c row h = record { long = h.long; each = h.each }
+use Rattle.rds_soft.proofs.Names.{common_steps, ◌≡◌, ℕ, suc, ◌+◌, ◌<◌, ◌≤◌, List, [], ap, ◌∙◌, arith, bit_xor, min, length, slice_index, get_or, set, inl, inr, xor_lt, cases_lt, get_or-set_same, get_or-set_other, least, Follows, AreLeast}
 
 pub next_are_least : (e c : ℕ → ℕ) (n : ℕ) (row next : List ℕ) → e n < 1024 → AreLeast e c n row → length next ≡ 1024
     → Follows row (e n) (c n) next → AreLeast e c (suc n) next
@@ -20,11 +16,6 @@ pub one_row_more : (e c : ℕ → ℕ) (n m : ℕ) (rows : List (List ℕ)) (row
     → ((k : ℕ) → k ≤ n → AreLeast e c k (get_or rows k [])) → AreLeast e c (suc n) row
     → (k : ℕ) → k ≤ m → AreLeast e c k (get_or (set rows m row) k [])
 one_row_more e c n m rows row is long before here k le = elim (cases_lt k m) [
-  | inl less ↦ subst (AreLeast e c k) (sym (get_or-set_other rows m k row [] (λ same. absurd (omega (arith, same, less)))))
-      (before k (omega (arith, less, is)))
-  | inr more ↦
-      let same : m ≡ k = omega (arith, le, more) in
-      subst (λ (j : ℕ). AreLeast e c j (get_or (set rows m row) j [])) same
-      (subst (AreLeast e c m) (sym (get_or-set_same rows m row [] long))
-      (subst (λ (j : ℕ). AreLeast e c j row) (sym is) here))
+  | inl less ↦ grind (arith, common_steps, before k (omega (arith, less, is)), get_or-set_other rows m k row [] (λ same. absurd (omega (arith, same, less))))
+  | inr more ↦ grind (arith, common_steps, here, get_or-set_same rows m row [] long)
 ]

@@ -1,6 +1,6 @@
 -- The lightest flips have the least weight, and all others weigh at least the second.
-use Rattle.rds_soft.proofs.Names.{common_steps, ◌≡◌, ◌≢◌, ℕ, zero, suc, ◌+◌, ◌^◌, ◌<◌, ◌≤◌, Bool, true, false, refl, sym, ◌∙◌, arith, bit_xor, subst, min, rules, ◌⊎◌, inl, inr, nat_lt, lit<, pow-suc, min-le_left, min-le_right, min-eq_left, min-eq_right, cases_lt, sum_of, weigh, of_none, least, is_flipped, lightest, second}
-use Rattle.rds_soft.proofs.LightestLemmas.{Reach, kept, turned, kept_weighs, turned_weighs, ways, least_below}
+use Rattle.rds_soft.proofs.Names.{common_steps, ◌≡◌, ◌≢◌, ℕ, zero, suc, ◌+◌, ◌^◌, ◌<◌, ◌≤◌, Bool, true, false, refl, sym, ap, ◌∙◌, arith, bit_xor, subst, min, rules, ◌⊎◌, inl, inr, nat_lt, lit<, pow-suc, min-le_left, min-le_right, min-eq_left, min-eq_right, cases_lt, sum_of, weigh, of_none, least, is_flipped, lightest, second}
+use Rattle.rds_soft.proofs.LightestLemmas.{Reach, undone, without, with_top, ways, least_below}
 
 -- flips of this weight
 pub record Weighs (e c : ℕ → ℕ) (n s flips w : ℕ) : Type 0 where
@@ -8,16 +8,21 @@ pub record Weighs (e c : ℕ → ℕ) (n s flips w : ℕ) : Type 0 where
   pub weight : weigh c n flips ≡ w
 
 weighs_kept : (e c : ℕ → ℕ) (n s flips w : ℕ) → Weighs e c n s flips w → Weighs e c (suc n) s flips w
-weighs_kept e c n s flips w h = record {
-  reach = kept e n s flips flips refl h.reach;
-  weight = kept_weighs c n flips flips h.reach.small refl ∙ h.weight;
-}
+weighs_kept e c n s flips w h =
+    let low = without e c n flips h.reach.small in
+    record {
+      reach = record { small = omega (arith, h.reach.small, pow-suc 2 n); sum = low.sum ∙ h.reach.sum };
+      weight = low.weight ∙ h.weight;
+    }
 
 weighs_turned : (e c : ℕ → ℕ) (n s rest w : ℕ) → Weighs e c n (bit_xor s (e n)) rest w → Weighs e c (suc n) s (2 ^ n + rest) (w + c n)
-weighs_turned e c n s rest w h = record {
-  reach = turned e n s rest (2 ^ n + rest) refl h.reach;
-  weight = omega (arith, turned_weighs c n rest (2 ^ n + rest) h.reach.small refl, h.weight);
-}
+weighs_turned e c n s rest w h =
+    let high = with_top e c n (2 ^ n + rest) rest refl h.reach.small in
+    let sum : sum_of e (suc n) (2 ^ n + rest) ≡ s = high.sum ∙ ap (λ (x : ℕ). bit_xor x (e n)) h.reach.sum ∙ undone s (e n) in
+    record {
+      reach = record { small = omega (arith, h.reach.small, pow-suc 2 n); sum = sum };
+      weight = omega (arith, high.weight, h.weight);
+    }
 
 -- ---- the lightest flips
 
@@ -52,34 +57,30 @@ lightest_reached e c (suc n) s near =
 
 -- ---- all others
 
-others_by : (n w a b k f g flips x y lf lg : ℕ) (t : Bool)
+others_by : (n w a b k flips x y lf lg : ℕ) (t : Bool)
     → (((x ≤ w) × (flips ≢ lf → y ≤ w)) ⊎ ((rest : ℕ) × (flips ≡ 2 ^ n + rest) × (a + k ≤ w) × (rest ≢ lg → b + k ≤ w)))
     → flips ≢ elim t [ false ↦ lf | true ↦ 2 ^ n + lg ]
     → elim t [ false ↦ min (a + k) y | true ↦ min x (b + k) ] ≤ w
-others_by n w a b k f g flips x y lf lg t h other = grind (arith, common_steps, min-le_right, min-le_left)
+others_by n w a b k flips x y lf lg t h other = grind (arith, common_steps, min-le_right, min-le_left)
 
 pub others_weigh : (e c : ℕ → ℕ) (n s flips : ℕ) → Reach e n s flips → flips ≢ lightest e c n s → second e c n s ≤ weigh c n flips
 unfolding second lightest
 others_weigh e c zero s flips h other = absurd (other (omega (arith, h.small)))
 others_weigh e c (suc n) s flips h other =
     let t : ℕ = bit_xor s (e n) in
-    let by_way : ((least e c n s ≤ weigh c (suc n) flips) × (flips ≢ lightest e c n s → second e c n s ≤ weigh c (suc n) flips))
-    ⊎ ((rest : ℕ) × (flips ≡ 2 ^ n + rest) × (least e c n t + c n ≤ weigh c (suc n) flips)
-    × (rest ≢ lightest e c n t → second e c n t + c n ≤ weigh c (suc n) flips)) =
-    elim (ways e c n s flips h) [
+    others_by n (weigh c (suc n) flips) (least e c n t) (second e c n t) (c n) flips (least e c n s) (second e c n s)
+    (lightest e c n s) (lightest e c n t) (is_flipped e c n s) (elim (ways e c n s flips h) [
       | inl way ↦ inl (
-        omega (arith, way.weight, least_below e c n s flips way.reach),
-        λ apart. omega (arith, way.weight, others_weigh e c n s flips way.reach apart),
+        omega (arith, way.0.weight, least_below e c n s flips way.1),
+        λ apart. omega (arith, way.0.weight, others_weigh e c n s flips way.1 apart),
       )
       | inr way ↦ inr (
         way.0,
         way.1.whole,
-        omega (arith, way.1.weight, least_below e c n t way.0 way.1.reach),
-        λ apart. omega (arith, way.1.weight, others_weigh e c n t way.0 way.1.reach apart),
+        omega (arith, way.1.weight, least_below e c n t way.0 way.2),
+        λ apart. omega (arith, way.1.weight, others_weigh e c n t way.0 way.2 apart),
       )
-    ] in
-    others_by n (weigh c (suc n) flips) (least e c n t) (second e c n t) (c n) 0 0 flips (least e c n s) (second e c n s)
-    (lightest e c n s) (lightest e c n t) (is_flipped e c n s) by_way other
+    ]) other
 
 -- ---- some others weigh so much
 

@@ -1,6 +1,6 @@
 -- A stream of symbols after further ones, and at its end.
-use Rattle.rds_soft.proofs.Names.{◌≡◌, ◌+◌, ◌-◌, ◌*◌, ◌^◌, ◌<◌, ◌≤◌, ◌++◌, ◌⊎◌, ◌∙◌, ◌∷◌, common_steps, ℕ, List, [], ap, ap₂, arith, drop, inl, length, map, refl, subst, sym, All, append-nil, drop-append-le, length-append, length-drop, map-append, AreGaps, Signal, length_of, AcquisitionsAreLate, RunsAreLawful, RunsAreReports, RunsGiveFewItems, RunsJoin, StepsAreLawful, IsLawful, RuleNumbers, items_of_end, run, Item, State, Searching, EndsMove, IsPartHeard, RunsMove, most_behind, moved_items, moved_state, moved_back, place_of, hard-at-most-more, lawful-back, still-items, still-state, part-touched, start-touched, run-early, back-on, SymbolsHaveWindows, item_again, symbols_of, SoftTerms, complete, read_again, report_of, run_of, signal_of, Knows, again_in, last_symbols, most_kept, moved_again, part_of, place_again, AreAtMost, SoftItem, last-ones}
-use Rattle.rds_soft.{specs.declared.soft_totals.SoftTotals.SoftTotals, proofs.InsideLemmas.AllInside, proofs.InsideLemmas.end-inside, proofs.InsideLemmas.items-same, proofs.InsideLemmas.run-inside, proofs.PartLemmas.length-bits, proofs.PartLemmas.length-symbols, proofs.PartLemmas.part-heard, proofs.PartLemmas.part-symbols}
+use Rattle.rds_soft.proofs.Names.{◌≡◌, ◌+◌, ◌-◌, ◌*◌, ◌^◌, ◌<◌, ◌≤◌, ◌++◌, ◌⊎◌, ◌∙◌, ◌∷◌, common_steps, ℕ, List, [], ap, ap₂, arith, drop, inl, length, map, refl, subst, sym, All, append-nil, drop-append-le, length-append, length-drop, map-append, AreGaps, Signal, TouchAlike, length_of, AcquisitionsAreLate, RunsAreLawful, RunsAreReports, RunsGiveFewItems, RunsJoin, StepsAreLawful, IsLawful, RuleNumbers, items_of_end, run, Item, State, Searching, EndsMove, IsPartHeard, RunsMove, most_behind, moved_items, moved_state, moved_back, place_of, hard-at-most-more, lawful-back, still-items, still-state, part-touched, start-touched, run-early, back-on, SymbolsHaveWindows, item_again, symbols_of, SoftTerms, complete, read_again, report_of, run_of, signal_of, Knows, again_in, last_symbols, most_kept, moved_again, part_of, place_again, AreAtMost, SoftItem, last-ones}
+use Rattle.rds_soft.{specs.declared.soft_totals.SoftTotals.SoftTotals, proofs.InsideLemmas.AllInside, proofs.InsideLemmas.end-inside, proofs.InsideLemmas.items-same, proofs.InsideLemmas.run-inside, proofs.PartLemmas.length-symbols, proofs.PartLemmas.part-heard, proofs.PartLemmas.part-symbols, proofs.SymbolLemmas.bit_count}
 use Rattle.rds_sync.specs.Ranges.{IsInRange}
 
 -- moved by nothing
@@ -59,10 +59,51 @@ module _ (late : AcquisitionsAreLate) (steps : StepsAreLawful) (lawfuls : RunsAr
   local-lawful = lawful-back rules (d symbols) (from symbols) (length symbols - 1) local state local-is state-lawful (from-there symbols) (early-enough symbols)
 
   bits-long : length_of (signal_of terms symbols) ≡ length symbols - 1
-  bits-long = length-bits (symbols_of symbols) ∙ ap (λ (n : ℕ). n - 1) (length-symbols symbols)
+  bits-long = bit_count (symbols_of symbols) ∙ ap (λ (n : ℕ). n - 1) (length-symbols symbols)
 
   run-in : AllInside (length symbols - 1) (run_of terms symbols).1
   run-in = grind (arith, common_steps, run-inside)
+
+  -- ---- the part of a stream that the kept symbols and these after them are
+
+  module _ (more W : List ℕ) (are-all : W ≡ symbols ++ more) where
+    abbrev P : List ℕ
+    P = kept symbols ++ more
+
+    abbrev part : Signal
+    part = part_of terms.gaps (d symbols) P
+
+    long : length P ≡ length (kept symbols) + length more
+    long = length-append (kept symbols) more
+
+    longer : length W ≡ length symbols + length more
+    longer = ap (λ (xs : List ℕ). length xs) are-all ∙ length-append symbols more
+
+    part-long : length_of part ≡ length P - 1
+    part-long = bit_count (symbols_of P) ∙ ap (λ (n : ℕ). n - 1) (length-symbols P)
+
+    ordered : from symbols ≤ length_of part
+    ordered = omega (arith, part-long, long)
+
+    split : drop (d symbols) W ≡ P ++ []
+    split =
+        ap (drop (d symbols)) are-all ∙ drop-append-le (d symbols) symbols more (omega arith)
+        ∙ ap (λ (xs : List ℕ). xs ++ more) (last-of symbols) ∙ sym (append-nil P)
+
+    reach : d symbols + length P ≤ length W
+    reach = omega (arith, long, longer, kept-long symbols)
+
+    alike : TouchAlike (d symbols) (length P - 1) terms.gaps part.gaps
+    alike = part-touched (2 ^ 36) (d symbols) (length P - 1) terms.gaps are
+
+    heard : IsPartHeard (signal_of terms W) part (d symbols) (from symbols)
+    heard = part-heard windows terms.gaps part.gaps P W [] (d symbols) alike split reach (from symbols) (early-enough symbols)
+
+    again : (items : List Item) → AllInside (length P - 1) items
+        → read_again terms W (moved_items (d symbols) items) ≡ map (again_in part P terms.margin (d symbols)) items
+    again items inside =
+        sym (items-same part (signal_of terms W) (symbols_of P) (symbols_of W) terms.margin (length P - 1) (d symbols)
+        (part-symbols windows terms.gaps part.gaps P W [] (d symbols) alike split reach) items inside)
 
   -- ---- after further symbols
 
@@ -70,49 +111,20 @@ module _ (late : AcquisitionsAreLate) (steps : StepsAreLawful) (lawfuls : RunsAr
     abbrev all : List ℕ
     all = symbols ++ more
 
-    abbrev P : List ℕ
-    P = kept symbols ++ more
-
-    abbrev part : Signal
-    part = part_of terms.gaps (d symbols) P
-
     abbrev whole : Signal
-    whole = signal_of terms (symbols ++ more)
+    whole = signal_of terms all
 
     abbrev bits : ℕ
-    bits = length_of part - from symbols
+    bits = length_of (part more all refl) - from symbols
 
     abbrev found : State × List Item
-    found = run part rules local (from symbols) bits
-
-    long : length P ≡ length (kept symbols) + length more
-    long = length-append (kept symbols) more
-
-    longer : length all ≡ length symbols + length more
-    longer = length-append symbols more
-
-    part-long : length_of part ≡ length P - 1
-    part-long = length-bits (symbols_of P) ∙ ap (λ (n : ℕ). n - 1) (length-symbols P)
-
-    pub ordered : from symbols ≤ length_of part
-    ordered = omega (arith, part-long, long)
-
-    split : drop (d symbols) all ≡ P ++ []
-    split = drop-append-le (d symbols) symbols more (omega arith) ∙ ap (λ (xs : List ℕ). xs ++ more) (last-of symbols) ∙ sym (append-nil P)
-
-    reach : d symbols + length P ≤ length all
-    reach = omega (arith, long, longer, kept-long symbols)
-
-    heard : IsPartHeard whole part (d symbols) (from symbols)
-    heard =
-        part-heard windows terms.gaps part.gaps P all [] (d symbols) (part-touched (2 ^ 36) (d symbols) (length P - 1) terms.gaps are) split reach
-        (from symbols) (early-enough symbols)
+    found = run (part more all refl) rules local (from symbols) bits
 
     here : drop 0 all ≡ symbols ++ more
     here = refl
 
     begins : 0 + length symbols ≤ length all
-    begins = omega (arith, longer)
+    begins = omega (arith, longer more all refl)
 
     heard-before : IsPartHeard whole (signal_of terms symbols) 0 0
     heard-before =
@@ -124,21 +136,15 @@ module _ (late : AcquisitionsAreLate) (steps : StepsAreLawful) (lawfuls : RunsAr
         ∙ ap₂ (λ (s : State) (items : List Item). (s, items)) (still-state state) (still-items (run_of terms symbols).1)
 
     run-here : run whole rules state (length symbols - 1) bits ≡ (moved_state (d symbols) found.0, moved_items (d symbols) found.1)
-    run-here = grind (arith, common_steps, local-is, from-there, local-lawful, heard, ordered)
+    run-here = grind (arith, common_steps, local-is, from-there, local-lawful, heard more all refl, ordered more all refl)
 
     run-after : run_of terms all ≡ (moved_state (d symbols) found.0, (run_of terms symbols).1 ++ moved_items (d symbols) found.1)
     run-after =
         let total : length all - 1 - 0 ≡ length all - 1 = omega arith in
         let front : length symbols - 1 - 0 ≡ length symbols - 1 = omega arith in
-        let rest : length all - 1 - (length symbols - 1) ≡ bits = omega (arith, part-long, long, longer, kept-long symbols) in
-        ap (λ (n : ℕ). run whole rules Searching 0 n) (sym total)
-        ∙ joins whole rules Searching 0 (length symbols - 1) (length all - 1) (omega arith) (omega (arith, longer))
-        ∙ ap₂ (λ (a b : ℕ). (
-          (run whole rules (run whole rules Searching 0 a).0 (length symbols - 1) b).0,
-          (run whole rules Searching 0 a).1 ++ (run whole rules (run whole rules Searching 0 a).0 (length symbols - 1) b).1,
-        )) front rest
-        ∙ ap (λ (r : State × List Item). ((run whole rules r.0 (length symbols - 1) bits).0, r.1 ++ (run whole rules r.0 (length symbols - 1) bits).1)) run-before
-        ∙ ap (λ (r : State × List Item). (r.0, (run_of terms symbols).1 ++ r.1)) run-here
+        let rest : length all - 1 - (length symbols - 1) ≡ bits = omega (arith, part-long more all refl, long more all refl, longer more all refl, kept-long symbols) in
+        let two = joins whole rules Searching 0 (length symbols - 1) (length all - 1) (omega arith) (omega (arith, longer more all refl)) in
+        grind (arith, common_steps, total, front, rest, two, run-before, run-here)
 
     pub state-after : moved_state (d symbols) found.0 ≡ (run_of terms all).0
     state-after = sym (ap (λ (r : State × List Item). r.0) run-after)
@@ -151,23 +157,17 @@ module _ (late : AcquisitionsAreLate) (steps : StepsAreLawful) (lawfuls : RunsAr
         (run_of terms symbols).1 run-in)
         ∙ still-all (item_again (signal_of terms symbols) (symbols_of symbols) terms.margin) (run_of terms symbols).1
 
-    found-in : AllInside (length P - 1) found.1
-    found-in = grind (arith, common_steps, ordered, part-long, run-inside, local-lawful)
+    found-in : AllInside (length (P more all refl) - 1) found.1
+    found-in = grind (arith, common_steps, ordered more all refl, part-long more all refl, run-inside, local-lawful)
 
-    again-after : read_again terms all (moved_items (d symbols) found.1) ≡ map (again_in part P terms.margin (d symbols)) found.1
-    again-after =
-        sym (items-same part whole (symbols_of P) (symbols_of all) terms.margin (length P - 1) (d symbols)
-        (part-symbols windows terms.gaps part.gaps P all [] (d symbols) (part-touched (2 ^ 36) (d symbols) (length P - 1) terms.gaps are) split reach)
-        found.1 found-in)
-
-    pub complete-after : complete terms all ≡ complete terms symbols ++ map (again_in part P terms.margin (d symbols)) found.1
-    complete-after = grind (arith, common_steps, run-after, map-append, again-before, again-after)
+    pub complete-after : complete terms all ≡ complete terms symbols ++ map (again_in (part more all refl) (P more all refl) terms.margin (d symbols)) found.1
+    complete-after = grind (arith, common_steps, run-after, map-append, again-before, again more all refl found.1 found-in)
 
     pub few-found : RunsGiveFewItems → length found.1 ≤ 2 * length more
-    few-found few = grind (arith, common_steps, ordered, part-long, long)
+    few-found few = grind (arith, common_steps, ordered more all refl, part-long more all refl, long more all refl)
 
     pub found-early : length all ≤ 2 ^ 36 + 1 → All (λ (item : Item). place_of item < 2 ^ 37) found.1
-    found-early limit = run-early part rules (2 ^ 37) local (from symbols) bits (omega (arith, ordered, part-long, long, longer, limit, kept-long symbols))
+    found-early limit = run-early (part more all refl) rules (2 ^ 37) local (from symbols) bits (omega (arith, ordered more all refl, part-long more all refl, long more all refl, longer more all refl, limit, kept-long symbols))
 
   -- ---- at the end
 
@@ -178,51 +178,33 @@ module _ (late : AcquisitionsAreLate) (steps : StepsAreLawful) (lawfuls : RunsAr
     abbrev near : Signal
     near = part_of terms.gaps (d symbols) last
 
-    last-is : last ≡ kept symbols
-    last-is = append-nil (kept symbols)
+    nothing : symbols ≡ symbols ++ []
+    nothing = sym (append-nil symbols)
 
-    last-long : length last ≡ length (kept symbols)
-    last-long = ap (λ (xs : List ℕ). length xs) last-is
-
-    pub near-long : length_of near ≡ from symbols
-    near-long = length-bits (symbols_of last) ∙ ap (λ (n : ℕ). n - 1) (length-symbols last ∙ last-long)
+    near-long : length_of near ≡ from symbols
+    near-long = omega (arith, part-long [] symbols nothing, long [] symbols nothing)
 
     near-lawful : IsLawful rules (length_of near) local
     near-lawful = subst (λ (n : ℕ). IsLawful rules n local) (sym near-long) local-lawful
 
-    end-split : drop (d symbols) symbols ≡ last ++ []
-    end-split = last-of symbols ∙ sym last-is ∙ sym (append-nil last)
-
-    end-reach : d symbols + length last ≤ length symbols
-    end-reach = omega (arith, last-long, kept-long symbols)
-
     end-heard : IsPartHeard (signal_of terms symbols) near (d symbols) (length_of near)
-    end-heard =
-        part-heard windows terms.gaps near.gaps last symbols [] (d symbols) (part-touched (2 ^ 36) (d symbols) (length last - 1) terms.gaps are) end-split end-reach
-        (length_of near) (subst (λ (n : ℕ). (d symbols ≡ 0) ⊎ (most_behind ≤ n)) (sym near-long) (early-enough symbols))
+    end-heard = subst (λ (n : ℕ). IsPartHeard (signal_of terms symbols) near (d symbols) n) (sym near-long) (heard [] symbols nothing)
 
     end-moved : items_of_end (signal_of terms symbols) rules state ≡ moved_items (d symbols) (items_of_end near rules local)
     end-moved = grind (arith, common_steps, local-is, near-lawful, end-heard)
 
     end-in : AllInside (length last - 1) (items_of_end near rules local)
-    end-in = grind (arith, common_steps, near-long, last-long, end-inside, near-lawful)
+    end-in = grind (arith, common_steps, near-long, long [] symbols nothing, end-inside, near-lawful)
 
     end-again : read_again terms symbols (items_of_end (signal_of terms symbols) rules state)
         ≡ map (again_in near last terms.margin (d symbols)) (items_of_end near rules local)
-    end-again =
-        ap (read_again terms symbols) end-moved
-        ∙ sym (items-same near (signal_of terms symbols) (symbols_of last) (symbols_of symbols) terms.margin (length last - 1) (d symbols)
-        (part-symbols windows terms.gaps near.gaps last symbols [] (d symbols) (part-touched (2 ^ 36) (d symbols) (length last - 1) terms.gaps are) end-split end-reach)
-        (items_of_end near rules local) end-in)
+    end-again = ap (read_again terms symbols) end-moved ∙ again [] symbols nothing (items_of_end near rules local) end-in
 
     pub report-closed : complete terms symbols ++ map (again_in near last terms.margin (d symbols)) (items_of_end near rules local) ≡ report_of terms symbols
     report-closed =
         let b = signal_of terms symbols in
-        ap (λ (xs : List SoftItem). complete terms symbols ++ xs) (sym end-again)
-        ∙ sym (map-append (item_again b (symbols_of symbols) terms.margin) (run_of terms symbols).1 (items_of_end b rules state))
-        ∙ ap (read_again terms symbols)
-        (ap (λ (n : ℕ). (run b rules Searching 0 n).1 ++ items_of_end b rules (run b rules Searching 0 n).0) (sym bits-long)
-        ∙ reports b rules range.loss.0)
+        let both = map-append (item_again b (symbols_of symbols) terms.margin) (run_of terms symbols).1 (items_of_end b rules state) in
+        grind (arith, common_steps, end-again, bits-long, both, reports b rules range.loss.0)
 
 -- ---- by the numbers of a decoder
 
@@ -250,7 +232,7 @@ module _ {terms : SoftTerms} {symbols kept_now : List ℕ} {count : ℕ} {now : 
 
   -- how long the part is
   part-size : (more xs : List ℕ) (part : Signal) (before : ℕ) → xs ≡ kept_now → part ≡ part_of terms.gaps before (xs ++ more) → length_of part ≡ length kept_now + length more - 1
-  part-size more xs part before same is = grind (arith, common_steps, length-bits, length-symbols, length-append)
+  part-size more xs part before same is = grind (arith, common_steps, bit_count, length-symbols, length-append)
 
   pub part-longer : (more xs : List ℕ) (part : Signal) (from_now before : ℕ) → from_now ≡ length kept_now - 1 → xs ≡ kept_now
       → part ≡ part_of terms.gaps before (xs ++ more) → from_now ≤ length_of part
@@ -265,14 +247,7 @@ module _ {terms : SoftTerms} {symbols kept_now : List ℕ} {count : ℕ} {now : 
       → (part : Signal) (xs : List ℕ) (before : ℕ) → before ≡ count - length kept_now → part ≡ part_of terms.gaps before (kept_now ++ []) → xs ≡ kept_now ++ []
       → complete terms symbols ++ map (again_in part xs terms.margin before) (items_of_end part terms.rules (moved_back before now)) ≡ report_of terms symbols
   closed late steps lawfuls windows range reports ends part xs before b is xs_is =
-      let last : List ℕ = kept symbols ++ [] in
-      let whole : part ≡ part_of terms.gaps (d symbols) last =
-      is ∙ ap₂ (λ (n : ℕ) (ys : List ℕ). part_of terms.gaps n (ys ++ [])) (b ∙ before-is) k.kept_is in
-      let near : Signal = part_of terms.gaps (d symbols) last in
-      ap₂ (λ (p : Signal) (n : ℕ). complete terms symbols ++ map (again_in p xs terms.margin n) (items_of_end p terms.rules (moved_back n now))) whole (b ∙ before-is)
-      ∙ ap₂ (λ (ys : List ℕ) (s : State). complete terms symbols ++ map (again_in near ys terms.margin (d symbols)) (items_of_end near terms.rules (moved_back (d symbols) s)))
-      (xs_is ∙ ap (λ (ys : List ℕ). ys ++ []) k.kept_is) k.state_is
-      ∙ report-closed late steps lawfuls windows terms range k.gaps symbols reports ends
+      grind (arith, common_steps, before-is, report-closed late steps lawfuls windows terms range k.gaps symbols reports ends)
 
   -- the last symbols after further ones
   pub kept-after : (more : List ℕ) → last_symbols (kept_now ++ more) ≡ last_symbols (symbols ++ more)

@@ -2,7 +2,7 @@
 use Rattle.rds_soft.proofs.Names.{◌≡◌, ℕ, ◌+◌, ◌-◌, ◌*◌, ◌<◌, true, false, List, length, get_or, take, arith, lit<, ℤ, if◌then◌else◌, is_positive, number_from_digits, get_or-map-range_with_len, length-map-range_with_len, sign, hard_bit, hard_bits}
 use Rattle.std.proofs.lemmas.Int.Digits.{number_more}
 
-sign_lt : (r : ℤ) → sign r < 2
+pub sign_lt : (r : ℤ) → sign r < 2
 sign_lt r = elim (is_positive r) as (λ b. (if b then 1 else 0) < 2) [ true ↦ lit< tt | false ↦ lit< tt ]
 
 pub bit_of : (symbols : List ℤ) (i : ℕ) → i + 1 < length symbols → get_or (hard_bits symbols) i 0 ≡ hard_bit symbols i

@@ -1,11 +1,11 @@
 -- Totals of items read again.
-use Rattle.rds_soft.proofs.Names.{◌≡◌, ℕ, ◌+◌, ◌*◌, List, [], ◌∷◌, ◌++◌, ◌<◌, ◌∙◌, ap, append_assoc, arith, length, slice_index, slice_index_or, sym, take, take_more, SoftItem, InSoft, soft_totals_of, plus}
+use Rattle.rds_soft.proofs.Names.{◌≡◌, common_steps, ℕ, ◌+◌, ◌*◌, List, [], ◌∷◌, ◌++◌, ◌<◌, append_assoc, arith, length, slice_index, slice_index_or, take, take_more, SoftItem, InSoft, soft_totals_of, plus}
 use Rattle.std.proofs.lemmas.List.Sums.{sum_by-append}
 use Rattle.rds_soft.specs.{Inside.Totals.clean, SoftLists.valid_group, declared.soft_list.ValidGroup.ValidGroup, declared.soft_totals.SoftTotals.SoftTotals}
 
 -- those of two lists, one after the other
-pub soft_totals_of-append : (xs ys : List SoftItem) → soft_totals_of (xs ++ ys) ≡ plus (soft_totals_of xs) (soft_totals_of ys)
-soft_totals_of-append xs ys = simp sum_by-append
+pub soft_totals_of_append : (xs ys : List SoftItem) → soft_totals_of (xs ++ ys) ≡ plus (soft_totals_of xs) (soft_totals_of ys)
+soft_totals_of_append xs ys = simp sum_by-append
 
 -- sums in another order
 turn : (x y z : ℕ) → x + y + z ≡ x + z + y
@@ -56,8 +56,4 @@ one_clean t n group =
 -- one item more
 pub next_item : (before items : List SoftItem) (i : ℕ) (item : SoftItem) → i < length items → item ≡ slice_index_or items i item
     → plus (soft_totals_of (before ++ take i items)) (soft_totals_of (item ∷ [])) ≡ soft_totals_of (before ++ take (i + 1) items)
-next_item before items i item inside is =
-    let at : SoftItem = slice_index_or items i item in
-    ap (λ (x : SoftItem). plus (soft_totals_of (before ++ take i items)) (soft_totals_of (x ∷ []))) is
-    ∙ sym (soft_totals_of-append (before ++ take i items) (at ∷ []))
-    ∙ ap soft_totals_of (append_assoc before (take i items) (at ∷ []) ∙ ap (λ (xs : List SoftItem). before ++ xs) (sym (take_more items i item inside)))
+next_item before items i item inside is = grind (arith, common_steps, soft_totals_of_append, append_assoc, take_more)

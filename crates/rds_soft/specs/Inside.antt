@@ -1,7 +1,6 @@
 -- Definitions that the bodies of this crate cite, and no contract of a public function.
 pub mod Lightest
 pub mod Rows
-pub mod Nearer
 pub mod Packed
 pub mod Streams
 pub mod Lists

@@ -5,7 +5,7 @@ use Rattle.std.specs.Int.{cast_signed, w8}
 use Rattle.rds_code.specs.{declared.offset.Offset.Offset, declared.offset.Offset.TheVariants.A, declared.offset.Offset.TheVariants.B, declared.offset.Offset.TheVariants.C, declared.offset.Offset.TheVariants.Cx, declared.offset.Offset.TheVariants.D, declared.reading.Reading.TheVariants.Valid, declared.reading.Wanted.Wanted, declared.reading.Wanted.TheVariants.OnlyC, declared.reading.Wanted.TheVariants.OnlyCx, declared.reading.Wanted.TheVariants.Either, Remainder.rem, Offsets.offset_of, Offsets.word, Offsets.number, Reading.information}
 use Rattle.rds_stream.specs.Recording.{Signal, length_of, touched}
 use Rattle.rds_sync.specs.{declared.item.Block.Block, declared.item.Block.TheVariants.Missing, declared.item.Block.TheVariants.Read, declared.item.Item.Item, declared.item.Item.TheVariants.Acquired, declared.item.Item.TheVariants.Group, declared.item.Item.TheVariants.LostLock, Groups.block_in}
-use Rattle.rds_soft.specs.{declared.correction.Correction.Correction, declared.soft_reading.SoftReading.SoftReading, declared.soft_item.SoftBlock.SoftBlock, declared.soft_item.SoftGroup.SoftGroup, declared.soft_item.SoftItem.SoftItem, Inside.Lightest.effect, Inside.Lightest.confidence, Inside.Lightest.least, Inside.Lightest.lightest, Inside.Lightest.second, Nearest.mask_of, Nearest.top, SoftGroups.wanted_beside, SoftGroups.group_of, Symbols.confidences, Symbols.hard_window}
+use Rattle.rds_soft.specs.{declared.correction.Correction.Correction, declared.nearest.Turn.Turn, declared.soft_reading.SoftReading.SoftReading, declared.soft_item.SoftBlock.SoftBlock, declared.soft_item.SoftGroup.SoftGroup, declared.soft_item.SoftItem.SoftItem, Inside.Lightest.effect, Inside.Lightest.confidence, Inside.Lightest.least, Inside.Lightest.lightest, Inside.Lightest.second, Nearest.mask_of, Nearest.top, SoftGroups.wanted_beside, SoftGroups.group_of, Symbols.confidences, Symbols.hard_window}
 use Rattle.rds_soft.specs.declared.soft_reading.SoftReading.TheVariants as Soft
 use Rattle.rds_soft.specs.declared.soft_item.SoftBlock.TheVariants as Again
 use Rattle.rds_soft.specs.declared.soft_item.SoftItem.TheVariants as InSoft
@@ -17,12 +17,6 @@ symbols_of bytes = map (cast_signed w8) bytes
 -- ---- the correction
 
 -- the lightest flips that turn a window into a block with this offset, their weight, and the least weight of any others
-pub record Turn : Type 0 where
-  pub offset : Offset
-  pub flips : ℕ
-  pub weight : ℕ
-  pub others : ℕ
-
 abbrev pub turn_to : ℕ → List ℕ → Offset → Turn
 turn_to w cs o = let s : ℕ = bit_xor (rem w) (word o) in record {
   offset = o;

@@ -1,8 +1,8 @@
 //! Items of a report, read again from the symbols of its recording.
-ghost use Rattle.std.specs.Prelude.{◌≡◌, ◌+◌, ◌*◌, ◌≤◌, ℕ, ℤ, IfSome, List, Option, Some, None, drop, length, nat_lt, take, if◌then◌else◌};
+ghost use Rattle.std.specs.Prelude.{◌≡◌, ◌+◌, ◌*◌, ◌≤◌, ℕ, ℤ, IfSome, List, Option};
 ghost use Rattle.rds_code.specs.declared.reading.Wanted.{Wanted as AWanted};
 ghost use Rattle.rds_stream.specs.Recording.{Signal};
-ghost use Rattle.rds_soft.specs.{ReadAgain.block_again as the_block_again, ReadAgain.group_again as the_group_again, ReadAgain.symbols_heard as the_symbols_heard, ReadAgain.symbols_of, ReadAgain.was_read as the_was_read, SoftGroups.group_of};
+ghost use Rattle.rds_soft.specs.{Inside.Packed.chunk_of, ReadAgain.block_again as the_block_again, ReadAgain.group_again as the_group_again, ReadAgain.symbols_heard as the_symbols_heard, ReadAgain.symbols_of, ReadAgain.was_read as the_was_read, SoftGroups.group_of};
 
 use crate::lightest::SYMBOLS;
 use crate::margin::Margin;
@@ -168,21 +168,10 @@ fn symbols_heard(source: &Source<'_>, before: u64) -> Option<[i8; 27]>
 
 /// The 27 symbols from a place on, if they are there.
 fn chunk_at(symbols: &[u8], first: usize) -> Option<[i8; 27]>
-    ensures { result ≡ (if nat_lt (first + 26) (length (symbols_of symbols.now))
-        then Some (take 27 (drop first (symbols_of symbols.now))) else None) }
+    ensures { result ≡ chunk_of symbols.now first }
 {
-    match bytes_at(symbols, first) {
-        Some(bytes) => Some(signed(&bytes)),
-        None => None,
-    }
-}
-
-/// The 27 bytes from a place on, if they are there.
-fn bytes_at(bytes: &[u8], first: usize) -> Option<[u8; 27]>
-    ensures { result ≡ (if nat_lt (first + 26) (length bytes.now) then Some (take 27 (drop first bytes.now)) else None) }
-{
-    match bytes.get(first..)?.first_chunk() {
-        Some(chunk) => Some(*chunk),
+    match symbols.get(first..)?.first_chunk() {
+        Some(chunk) => Some(signed(chunk)),
         None => None,
     }
 }

@@ -4,6 +4,7 @@ ghost use Rattle.rds_soft.specs.{SoftTotals.SoftTotalsJoin, Laws.NoneTurnsValid,
 use rds_code::laws::{readings_follow_the_rule, remainders_are_linear};
 
 /// A window that is valid needs no flips, which weigh nothing.
+#[tactic(auto, using(crate::proofs::NearestLaws::none_turns_valid))]
 pub fn valid_blocks_need_no_flips()
     ensures { NoneTurnsValid }
 {}
@@ -24,11 +25,13 @@ pub fn sent_blocks_are_corrected()
 {}
 
 /// Symbols have one reading: whoever reads them, and whatever was read before.
+#[tactic(auto, using(crate::proofs::AgainLaws::has_one_soft_reading))]
 pub fn symbols_are_read_alike()
     ensures { HasOneSoftReading }
 {}
 
 /// `soft_reading` computes that reading.
+#[tactic(auto, using(crate::proofs::ReadAgainLaws::symbols_are_read_so))]
 pub fn symbols_are_read_so()
     ensures { SymbolsAreReadSo }
 {
@@ -36,6 +39,7 @@ pub fn symbols_are_read_so()
 }
 
 /// The totals of two lists, one after the other, are those of each together.
+#[tactic(auto, using(crate::proofs::TotalsLemmas::soft_totals_of_append))]
 pub fn soft_totals_join()
     ensures { SoftTotalsJoin }
 {}

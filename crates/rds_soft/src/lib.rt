@@ -29,7 +29,7 @@
 //!
 //! # What callers may rely on
 //!
-//! The result is the definition's, exactly (`specs/Nearest.antt`, `specs/Symbols.antt`, `specs/Again.antt`): if there is a nearest
+//! The result is the definition's, exactly (`specs/Nearest.antt`, `specs/Symbols.antt`, `specs/ReadAgain.antt`): if there is a nearest
 //! block it is found, and nothing else is. A valid block stays as it is, and so do acquisitions and losses. Each item is read again
 //! by itself, so any part of a report may be read again by any worker. A search takes no memory. [`Search::new`] takes 27,648 bytes
 //! once, and fails only with `OutOfMemory` (8).

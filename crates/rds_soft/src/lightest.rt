@@ -1,6 +1,6 @@
 //! The rows of least weights.
 ghost use Rattle.std.specs.Prelude.{◌≡◌, ℕ, ◌<◌, ◌+◌, ◌*◌, ◌/◌, ◌%◌, ◌^◌, length, slice_index, bit_xor, min};
-ghost use Rattle.rds_soft.specs.Inside.{Lightest.effect as the_effect, Lightest.confidence, Rows.Follows, Rows.AreLeast, Rows.AreRows, Rows.IsFirst};
+ghost use Rattle.rds_soft.specs.Inside.{Lightest.effect as the_effect, Lightest.confidence, Rows.Follows, Rows.AreLeast, Rows.AreRows};
 
 use rds_code::rem26;
 use std::simd::prelude::*;
@@ -43,8 +43,9 @@ pub(crate) fn effect(n: usize) -> u16
 }
 
 /// Fills the row of no symbols.
+#[tactic(auto, unfolding(crate::specs::Inside::Lightest::least))]
 fn fill_first(row: &mut Row)
-    ensures { IsFirst row.new }
+    ensures { (c : ℕ → ℕ) → AreLeast the_effect c 0 row.new }
 {
     for sum in 0..REMAINDERS {
         row[sum] = if sum == 0 { 0 } else { 255 };
@@ -100,7 +101,6 @@ fn block_of(row: &[u8], block: usize) -> u8x16
     requires block { block < 64 }
     ensures long { length result ≡ 16 }
     ensures each { (j : ℕ) → j < 16 → slice_index result j ≡ slice_index row.now (16 * block + j) }
-    ensures bytes { (j : ℕ) → j < 16 → slice_index result j < 256 }
 {
     let at = 16 * block;
     u8x16::from_slice(&row[at..])

@@ -1,57 +1,27 @@
 //! The lightest flips, from the rows of least weights.
-ghost use Rattle.std.specs.Prelude.{◌≡◌, ◌<◌, ◌+◌, length};
-ghost use Rattle.rds_soft.specs.Inside.{Lightest.effect as the_effect, Lightest.confidence, Lightest.AreLightest, Rows.AreRows, Rows.IsWalk};
+ghost use Rattle.std.specs.Prelude.{◌≡◌, ◌<◌, ◌≤◌, ◌+◌, length};
+ghost use Rattle.rds_soft.specs.Inside.{Lightest.effect as the_effect, Lightest.confidence, Lightest.least, Rows.AreRows, Rows.IsWalk};
 
 use crate::lightest::{Row, SYMBOLS, effect};
-use rds_code::laws::remainders_are_linear;
 
 /// The weight of flips that weigh more, or that are not there.
-const FAR: u16 = 255;
-
-/// The lightest flips whose effects have a sum.
-#[derive(Clone, Copy)]
-pub(crate) struct Lightest {
-    /// The flips, the first symbol highest.
-    pub(crate) flips: u32,
-    /// Their weight, or [`FAR`].
-    pub(crate) weight: u16,
-    /// The least weight of any others with this sum, or [`FAR`].
-    pub(crate) others: u16,
-}
+pub(crate) const FAR: u16 = 255;
 
 /// A look back from the first symbol, as far as it has come.
 #[derive(Clone, Copy)]
-struct Walk {
+pub(crate) struct Walk {
     /// The sum that the flips of the symbols from here on must have.
-    left: u16,
+    pub(crate) left: u16,
     /// The flips of the symbols before, the first symbol highest.
-    flips: u32,
+    pub(crate) flips: u32,
     /// Their weight.
-    weight: u16,
+    pub(crate) weight: u16,
     /// The least weight of other flips, which differ at a symbol before, or [`FAR`].
-    others: u16,
+    pub(crate) others: u16,
 }
 
-/// The lightest flips of 27 symbols whose effects have this sum.
-pub(crate) fn look_back(rows: &[Row], confidences: &[u8], sum: u16) -> Lightest
-    requires rows { length rows.now ≡ 27 }
-    requires symbols { length confidences.now ≡ 27 }
-    requires sum { sum < 1024 }
-    requires least { AreRows the_effect (confidence confidences.now) rows.now }
-    ensures { AreLightest confidences.now sum result.weight result.flips result.others }
-{
-    remainders_are_linear();
-    let walk = walk_back(rows, confidences, sum);
-    let weight = if walk.left == 0 { walk.weight } else { FAR };
-    Lightest {
-        flips: walk.flips,
-        weight,
-        others: walk.others,
-    }
-}
-
-/// The look back over all symbols.
-fn walk_back(rows: &[Row], confidences: &[u8], sum: u16) -> Walk
+/// The look back over all 27 symbols, for the lightest flips whose effects have this sum.
+pub(crate) fn look_back(rows: &[Row], confidences: &[u8], sum: u16) -> Walk
     requires rows { length rows.now ≡ 27 }
     requires symbols { length confidences.now ≡ 27 }
     requires sum { sum < 1024 }
@@ -82,8 +52,8 @@ fn one_back(rows: &[Row], confidences: &[u8], sum: u16, walk: Walk, n: usize) ->
 {
     let turned = walk.left ^ effect(n);
     let confidence = u16::from(confidences[SYMBOLS - 1 - n]);
-    let kept_weight = u16::from(rows[n][walk.left as usize]);
-    let turned_weight = u16::from(rows[n][turned as usize]) + confidence;
+    let kept_weight = least_of(rows, confidences, n, walk.left);
+    let turned_weight = least_of(rows, confidences, n, turned) + confidence;
     if turned_weight < kept_weight {
         Walk {
             left: turned,
@@ -97,4 +67,18 @@ fn one_back(rows: &[Row], confidences: &[u8], sum: u16, walk: Walk, n: usize) ->
             ..walk
         }
     }
+}
+
+/// The least weight of flips of the last `n` symbols whose effects have this sum, by the rows for these confidences.
+#[inline(always)]
+fn least_of(rows: &[Row], confidences: &[u8], n: usize, sum: u16) -> u16
+    requires rows { length rows.now ≡ 27 }
+    requires least { AreRows the_effect (confidence confidences.now) rows.now }
+    requires place { n < 27 }
+    requires sum { sum < 1024 }
+    ensures value { result ≡ least the_effect (confidence confidences.now) n sum }
+    ensures small { result ≤ 255 }
+{
+    let _ = confidences;
+    u16::from(rows[n][sum as usize])
 }

@@ -5,7 +5,7 @@ ghost use Rattle.rds_code.specs.declared.reading.Reading.TheVariants.{Valid as H
 ghost use Rattle.rds_live.specs.{Moving.most_behind, Moving.moved_state, Next.moved_back, Places.place_of};
 ghost use Rattle.rds_stream.specs.Recording.{AreGaps, Signal, length_of};
 ghost use Rattle.rds_sync.specs.{Lawful.IsLawful, Step.items_of_end, Step.run, declared.item.Block.TheVariants.Read as HardRead};
-ghost use Rattle.rds_soft.specs.{SoftLists.third_offset as the_third_offset, SoftLists.valid_group, SoftStream.group_item, declared.soft_item.SoftItem.TheVariants.Group as InSoft, Inside.Streams.again_in, Inside.Streams.last_symbols, Inside.Streams.moved_again, Inside.Streams.part_of, Inside.Streams.place_again};
+ghost use Rattle.rds_soft.specs.{SoftLists.third_offset as the_third_offset, SoftLists.valid_group, SoftStream.group_item, declared.soft_item.SoftItem.TheVariants.Group as InSoft, Inside.Streams.again_in, Inside.Streams.near_again, Inside.Streams.last_symbols, Inside.Streams.moved_again, Inside.Streams.part_of, Inside.Streams.place_again};
 
 use crate::margin::Margin;
 use crate::nearest::Search;
@@ -30,7 +30,7 @@ pub(crate) struct Near {
     pub(crate) symbols: Vec<u8>,
     /// The place of the part's first bit in the stream, and number of its first symbol.
     pub(crate) before: u64,
-    /// By which its blocks are read again.
+    /// The margin by which its blocks are read again.
     pub(crate) margin: Margin,
 }
 
@@ -125,35 +125,23 @@ pub(crate) fn read_all_again<R: Threads + Sync>(
 ) -> Result<SoftList, AllocError>
     requires limit { near.now.before ≤ 2 ^ 36 }
     requires places { All (λ item. place_of item < 2 ^ 37) items.now }
-    ensures { IfOk result (λ again. again
-        ≡ map (again_in near.now.recording near.now.symbols.items near.now.margin near.now.before) items.now) }
-{
-    if others.is_empty() || !has_work_for_several(items) {
-        return list_of_part(alloc, search, near, items);
-    }
-    let mut again = vec![in alloc; SoftItem::LostLock { place: 0 }; items.len()]?;
-    read_all(rt, near, search, others, items, again.as_mut_slice());
-    list_of(alloc, again.as_slice())
-}
-
-/// The same by one thread.
-fn list_of_part(
-    alloc: Global,
-    search: &mut Search,
-    near: &Near,
-    items: &[Item],
-) -> Result<SoftList, AllocError>
-    requires limit { near.now.before ≤ 2 ^ 36 }
-    requires places { All (λ item. place_of item < 2 ^ 37) items.now }
-    ensures { IfOk result (λ again. again
-        ≡ map (again_in near.now.recording near.now.symbols.items near.now.margin near.now.before) items.now) }
+    ensures { IfOk result (λ again. again ≡ map (near_again near.now) items.now) }
 {
     let mut list = SoftList::new(alloc);
-    for item in items {
-        match valid_in(item, near.before) {
-            Some(group) => list.push_valid(group)?,
-            None => list.push(item_in(search, near, item))?,
+    if others.is_empty() || !has_work_for_several(items) {
+        for item in items {
+            match valid_in(item, near.before) {
+                Some(group) => list.push_valid(group)?,
+                None => list.push(item_in(search, near, item))?,
+            }
         }
+        return Ok(list);
+    }
+    let mut room = vec![in alloc; SoftItem::LostLock { place: 0 }; items.len()]?;
+    read_all(rt, near, search, others, items, room.as_mut_slice());
+    let found = room.as_slice();
+    for again in found {
+        list.push(*again)?;
     }
     Ok(list)
 }
@@ -205,17 +193,6 @@ fn third_offset(second: u16) -> Offset
     }
 }
 
-/// These items as a list.
-fn list_of(alloc: Global, items: &[SoftItem]) -> Result<SoftList, AllocError>
-    ensures { IfOk result (λ list. list ≡ items.now) }
-{
-    let mut list = SoftList::new(alloc);
-    for item in items {
-        list.push(*item)?;
-    }
-    Ok(list)
-}
-
 /// The group in progress at the end of a part, in this state of the stream, read again from the part's symbols.
 pub(crate) fn end_near(
     search: &mut Search,
@@ -226,25 +203,15 @@ pub(crate) fn end_near(
     requires lawful { IsLawful rules.now (length_of near.now.recording + near.now.before) state }
     requires early { (near.now.before ≡ 0) ⊎ (most_behind ≤ length_of near.now.recording) }
     requires limit { near.now.before ≤ 2 ^ 36 }
-    ensures { group_item result ≡ map (again_in near.now.recording near.now.symbols.items near.now.margin near.now.before)
-        (items_of_end near.now.recording rules.now (moved_back near.now.before state)) }
+    ensures { group_item result ≡ map (near_again near.now) (items_of_end near.now.recording rules.now (moved_back near.now.before state)) }
 {
     prove!(near.recording.len() <= MOST_BITS);
     match finish_part(&near.recording, near.before, rules, state) {
-        Some(group) => Some(group_in(search, near, group)),
+        Some(group) => match item_in(search, near, &Item::Group(group)) {
+            SoftItem::Group(again) => Some(again),
+            _ => unreachable!(),
+        },
         None => None,
-    }
-}
-
-/// A group of a part, read again from its symbols.
-fn group_in(search: &mut Search, near: &Near, group: Group) -> SoftGroup
-    requires limit { near.now.before ≤ 2 ^ 36 }
-    requires place { group.place < 2 ^ 37 }
-    ensures { InSoft result ≡ again_in near.now.recording near.now.symbols.items near.now.margin near.now.before (Item.Group group) }
-{
-    match item_in(search, near, &Item::Group(group)) {
-        SoftItem::Group(again) => again,
-        _ => unreachable!(),
     }
 }
 
@@ -252,7 +219,7 @@ fn group_in(search: &mut Search, near: &Near, group: Group) -> SoftGroup
 pub(crate) fn item_in(search: &mut Search, near: &Near, item: &Item) -> SoftItem
     requires limit { near.now.before ≤ 2 ^ 36 }
     requires place { place_of item.now < 2 ^ 37 }
-    ensures { result ≡ again_in near.now.recording near.now.symbols.items near.now.margin near.now.before item.now }
+    ensures { result ≡ near_again near.now item.now }
 {
     let again = search.read_again(&near.recording, near.symbols.as_slice(), near.margin, item);
     moved_on(again, near.before)

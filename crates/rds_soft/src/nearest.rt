@@ -1,11 +1,11 @@
 //! The search of the nearest block.
 ghost use Rattle.std.specs.Prelude.{◌≡◌, ◌^◌, ◌<◌, length, bit_xor, min};
 ghost use Rattle.rds_code.specs.{declared.reading.Wanted.TheVariants.Either, Offsets.word, Remainder.rem};
-ghost use Rattle.rds_soft.specs.{Inside.Lightest.effect as the_effect, Inside.Lightest.confidence, Inside.Nearer.TurnTo, Inside.Nearer.AreNearest, Inside.Rows.AreRows, Nearest.IsCorrection};
+ghost use Rattle.rds_soft.specs.{Inside.Lightest.effect as the_effect, Inside.Lightest.confidence, Inside.Rows.AreRows, ReadAgain.turn_of, ReadAgain.turn_third, ReadAgain.turn_to as the_turn_to, ReadAgain.within as the_within};
 
 use crate::correction::Correction;
 use crate::lightest::{Row, SYMBOLS, fill_rows};
-use crate::look_back::look_back;
+use crate::look_back::{FAR, look_back};
 use crate::margin::Margin;
 use rds_code::laws::remainders_are_linear;
 use rds_code::{BlockNumber, Offset, RdsError, Wanted, rem26};
@@ -33,7 +33,7 @@ impl Model for Search {
 
 impl Search {
     ghost use Rattle.std.specs.Prelude.{◌≡◌, ◌^◌, ◌<◌, IsOkUnless, length};
-    ghost use Rattle.rds_soft.specs.Nearest.{IsCorrection};
+    ghost use Rattle.rds_soft.specs.{Nearest.IsCorrection, ReadAgain.correction};
 
     /// The room. Fails only with `OutOfMemory`.
     pub fn new(alloc: Global) -> Result<Search, RdsError>
@@ -45,6 +45,7 @@ impl Search {
 
     /// The correction of the window `w`, a word of 26 bits that is not valid, as block `number`: the nearest block, or none.
     /// `confidences` are those of the 27 symbols from the one before the window on.
+    #[tactic(auto, using(crate::proofs::ReadAgainLaws::correction_is))]
     pub fn nearest(
         &mut self,
         w: u32,
@@ -56,13 +57,33 @@ impl Search {
         requires { w < 2 ^ 26 }
         ensures { IsCorrection w number wanted confidences.now margin result }
     {
+        remainders_are_linear();
+        prove!(number.get() <= 4 && margin.weight() <= 127);
+        self.correction(w, confidences, number, wanted, margin)
+    }
+
+    /// The same, as it is computed.
+    #[tactic(auto, unfolding(crate::specs::ReadAgain::correction))]
+    pub(crate) fn correction(
+        &mut self,
+        w: u32,
+        confidences: &[u8; 27],
+        number: BlockNumber,
+        wanted: Wanted,
+        margin: Margin,
+    ) -> Option<Correction>
+        requires { w < 2 ^ 26 }
+        ensures { result ≡ correction w number wanted confidences.now margin }
+    {
         fill_rows(&mut self.rows, confidences);
-        let turn = nearest_turn(&self.rows, confidences, w, number, wanted);
-        within(turn, margin, confidences, w, number, wanted)
+        within(
+            nearest_turn(&self.rows, confidences, w, number, wanted),
+            margin,
+        )
     }
 }
 
-/// The lightest flips that turn a window into a block with an offset, and the least weight of any others.
+/// The lightest flips that turn a window into a block with an offset, and the least weight of any others, each known below 255.
 #[derive(Clone, Copy)]
 struct Turn {
     offset: Offset,
@@ -72,16 +93,8 @@ struct Turn {
 }
 
 /// The correction by this turn, if it is within the top and the margin.
-fn within(
-    turn: Turn,
-    margin: Margin,
-    confidences: &[u8],
-    w: u32,
-    number: BlockNumber,
-    wanted: Wanted,
-) -> Option<Correction>
-    requires { AreNearest w number wanted confidences.now turn.offset turn.flips turn.weight turn.others }
-    ensures { IsCorrection w number wanted confidences.now margin result }
+fn within(turn: Turn, margin: Margin) -> Option<Correction>
+    ensures { result ≡ the_within turn margin }
 {
     let Turn {
         offset,
@@ -110,9 +123,8 @@ fn nearest_turn(
     requires symbols { length confidences.now ≡ 27 }
     requires least { AreRows the_effect (confidence confidences.now) rows.now }
     requires block { w < 2 ^ 26 }
-    ensures { AreNearest w number wanted confidences.now result.offset result.flips result.weight result.others }
+    ensures { result ≡ turn_of w number wanted confidences.now }
 {
-    remainders_are_linear();
     match (number.get(), wanted) {
         (1, _) => turn_to(rows, confidences, w, Offset::A),
         (2, _) => turn_to(rows, confidences, w, Offset::B),
@@ -129,9 +141,8 @@ fn turn_to_either(rows: &[Row], confidences: &[u8], w: u32) -> Turn
     requires symbols { length confidences.now ≡ 27 }
     requires least { AreRows the_effect (confidence confidences.now) rows.now }
     requires block { w < 2 ^ 26 }
-    ensures { AreNearest w 3 Either confidences.now result.offset result.flips result.weight result.others }
+    ensures { result ≡ turn_third w Either confidences.now }
 {
-    remainders_are_linear();
     let version_a = turn_to(rows, confidences, w, Offset::C);
     let version_b = turn_to(rows, confidences, w, Offset::Cx);
     if version_a.weight <= version_b.weight {
@@ -143,10 +154,7 @@ fn turn_to_either(rows: &[Row], confidences: &[u8], w: u32) -> Turn
 
 /// The turn, with a rival of this weight.
 fn beside(turn: Turn, rival: u16) -> Turn
-    ensures offset { result.offset ≡ turn.offset }
-    ensures flips { result.flips ≡ turn.flips }
-    ensures weight { result.weight ≡ turn.weight }
-    ensures others { result.others ≡ min turn.others rival }
+    ensures { result ≡ record turn { others = min turn.others rival } }
 {
     Turn {
         others: turn.others.min(rival),
@@ -160,15 +168,14 @@ fn turn_to(rows: &[Row], confidences: &[u8], w: u32, offset: Offset) -> Turn
     requires symbols { length confidences.now ≡ 27 }
     requires least { AreRows the_effect (confidence confidences.now) rows.now }
     requires block { w < 2 ^ 26 }
-    ensures offset { result.offset ≡ offset }
-    ensures lightest { TurnTo w confidences.now offset result.flips result.weight result.others }
+    ensures { result ≡ the_turn_to w confidences.now offset }
 {
-    let lightest = look_back(rows, confidences, sum_of(w, offset));
+    let walk = look_back(rows, confidences, sum_of(w, offset));
     Turn {
         offset,
-        flips: lightest.flips,
-        weight: lightest.weight,
-        others: lightest.others,
+        flips: walk.flips,
+        weight: if walk.left == 0 { walk.weight } else { FAR },
+        others: walk.others,
     }
 }
 

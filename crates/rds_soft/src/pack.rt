@@ -86,15 +86,8 @@ fn signs_from(symbols: &[u8], from: usize) -> u64
     requires { from + 16 ≤ length symbols.now }
     ensures { (k : ℕ) → k < 16 → bit_at result (15 - k) ≡ sign_at symbols.now (from + k) }
 {
-    signs_of(u8x16::from_slice(&symbols[from..]))
-}
-
-/// The signs of sixteen symbols, the first one highest.
-#[inline(always)]
-fn signs_of(symbols: u8x16) -> u64
-    ensures { (k : ℕ) → k < 16 → bit_at result (15 - k) ≡ sign_at symbols k }
-{
-    let last_first = symbols.swizzle([15, 14, 13, 12, 11, 10, 9, 8, 7, 6, 5, 4, 3, 2, 1, 0]);
+    let lanes = u8x16::from_slice(&symbols[from..]);
+    let last_first = lanes.swizzle([15, 14, 13, 12, 11, 10, 9, 8, 7, 6, 5, 4, 3, 2, 1, 0]);
     // A signed byte is above 0 if one less is below 127: 0 gives 255.
     (last_first - u8x16::splat(1))
         .simd_lt(u8x16::splat(127))

@@ -1,7 +1,7 @@
 //! Items of a part of a stream that are read again, by several threads if there is work for them.
 ghost use Rattle.std.specs.{Prelude.◌≡◌, Prelude.◌≤◌, Prelude.◌<◌, Prelude.◌^◌, Prelude.All, Prelude.length, Prelude.map, Thread.IsSync};
 ghost use Rattle.rds_live.specs.Places.{place_of};
-ghost use Rattle.rds_soft.specs.Inside.Streams.{again_in};
+ghost use Rattle.rds_soft.specs.Inside.Streams.{near_again};
 
 use crate::near::{Near, item_in};
 use crate::nearest::Search;
@@ -32,8 +32,7 @@ pub(crate) fn read_all<R: Threads + Sync>(
     requires limit { near.now.before ≤ 2 ^ 36 }
     requires places { All (λ item. place_of item < 2 ^ 37) items.now }
     requires room { length again.old ≡ length items.now }
-    ensures { again.new
-        ≡ map (again_in near.now.recording near.now.symbols.items near.now.margin near.now.before) items.now }
+    ensures { again.new ≡ map (near_again near.now) items.now }
 {
     if others.is_empty() || !has_work_for_several(items) {
         read_alone(near, mine, items, again);
@@ -46,53 +45,15 @@ pub(crate) fn read_all<R: Threads + Sync>(
     let (front, back) = items.split_at(cut);
     let (front_again, back_again) = again.split_at_mut(cut);
     let (with_mine, with_theirs) = rest.split_at_mut(rest.len() / 2);
-    read_both(
-        rt,
-        near,
-        mine,
-        with_mine,
-        front,
-        front_again,
-        theirs,
-        with_theirs,
-        back,
-        back_again,
-    );
-}
-
-/// Reads the items of both halves again.
-#[cycle(halves)]
-fn read_both<R: Threads + Sync>(
-    rt: &R,
-    near: &Near,
-    mine: &mut Search,
-    with_mine: &mut [Search],
-    front: &[Item],
-    front_again: &mut [SoftItem],
-    theirs: &mut Search,
-    with_theirs: &mut [Search],
-    back: &[Item],
-    back_again: &mut [SoftItem],
-)
-    requires limit { near.now.before ≤ 2 ^ 36 }
-    requires front_places { All (λ item. place_of item < 2 ^ 37) front.now }
-    requires back_places { All (λ item. place_of item < 2 ^ 37) back.now }
-    requires front { length front_again.old ≡ length front.now }
-    requires back { length back_again.old ≡ length back.now }
-    ensures front { front_again.new
-        ≡ map (again_in near.now.recording near.now.symbols.items near.now.margin near.now.before) front.now }
-    ensures back { back_again.new
-        ≡ map (again_in near.now.recording near.now.symbols.items near.now.margin near.now.before) back.now }
-{
     let mut here = ||
         requires { IsSync R.row × (near.now.before ≤ 2 ^ 36) × All (λ item. place_of item < 2 ^ 37) front.now
             × (length front_again.now ≡ length front.now) }
-        ensures { front_again.exit.now ≡ map (again_in near.entry.now.recording near.entry.now.symbols.items near.entry.now.margin near.entry.now.before) front.entry.now }
+        ensures { front_again.exit.now ≡ map (near_again near.entry.now) front.entry.now }
     { read_all(rt, near, mine, with_mine, front, front_again) };
     let mut there = ||
         requires { IsSync R.row × (near.now.before ≤ 2 ^ 36) × All (λ item. place_of item < 2 ^ 37) back.now
             × (length back_again.now ≡ length back.now) }
-        ensures { back_again.exit.now ≡ map (again_in near.entry.now.recording near.entry.now.symbols.items near.entry.now.margin near.entry.now.before) back.entry.now }
+        ensures { back_again.exit.now ≡ map (near_again near.entry.now) back.entry.now }
     { read_all(rt, near, theirs, with_theirs, back, back_again) };
     join_mut(rt, &mut there, &mut here);
 }
@@ -102,8 +63,7 @@ fn read_alone(near: &Near, search: &mut Search, items: &[Item], again: &mut [Sof
     requires limit { near.now.before ≤ 2 ^ 36 }
     requires places { All (λ item. place_of item < 2 ^ 37) items.now }
     requires room { length again.old ≡ length items.now }
-    ensures { again.new
-        ≡ map (again_in near.now.recording near.now.symbols.items near.now.margin near.now.before) items.now }
+    ensures { again.new ≡ map (near_again near.now) items.now }
 {
     for i in 0..items.len() {
         again[i] = item_in(search, near, &items[i]);

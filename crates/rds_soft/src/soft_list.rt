@@ -1,5 +1,5 @@
 //! Items that were read again, in little room.
-ghost use Rattle.std.specs.Prelude.{◌≡◌, ◌<◌, ◌==◌, ◌++◌, ◌∷◌, ◌+◌, ◌^◌, ℕ, List, [], IfSome, None, OnOk, length, slice_index_or};
+ghost use Rattle.std.specs.Prelude.{◌≡◌, ◌<◌, ◌==◌, ◌++◌, ◌∷◌, ◌+◌, ◌^◌, ℕ, List, [], IfSome, None, OnErr, OnOk, length, slice_index_or};
 ghost use Rattle.rds_soft.specs.{SoftLists.item_of, SoftLists.valid_group, declared.soft_item.SoftItem.SoftItem as AnItem, declared.soft_item.SoftItem.TheVariants.Group as InSoft, declared.soft_list.ValidGroup.ValidGroup as AGroup};
 ghost use Rattle.rds_soft.specs.declared.soft_list.Listed.TheVariants as AListed;
 
@@ -88,7 +88,7 @@ impl SoftList {
         }
     }
 
-    /// Appends a group of four valid blocks. Refused memory, it leaves the list as it was.
+    /// Appends a group of four valid blocks.
     #[inline(always)]
     pub(crate) fn push_valid(&mut self, group: ValidGroup) -> Result<(), AllocError>
         requires { group.place < 2 ^ 63 }
@@ -97,9 +97,11 @@ impl SoftList {
         Ok(self.entries.push(group)?)
     }
 
-    /// Appends any item.
+    /// Appends any item. Refused memory, it leaves the list as it was.
+    #[tactic(auto, using(crate::proofs::ListLemmas::items_stay))]
     pub fn push(&mut self, item: SoftItem) -> Result<(), AllocError>
-        ensures { OnOk result (self.new ≡ self.old ++ item ∷ []) }
+        ensures appended { OnOk result (self.new ≡ self.old ++ item ∷ []) }
+        ensures refused { OnErr result (self.new ≡ self.old) }
     {
         let place = NO_PLACE + self.others.len() as u64;
         self.others.push(item)?;
@@ -111,7 +113,7 @@ impl SoftList {
         )
     }
 
-    /// Appends the items of another list. Fails only if memory is refused.
+    /// Appends the items of another list. Fails only if memory is refused: the first of them may then be appended.
     #[tactic(auto, using(crate::proofs::ListLemmas::one_appended))]
     pub fn append(&mut self, more: &SoftList) -> Result<(), AllocError>
         ensures { OnOk result (self.new ≡ self.old ++ more.now) }

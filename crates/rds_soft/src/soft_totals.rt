@@ -1,5 +1,5 @@
 //! The totals of items that were read again.
-ghost use Rattle.std.specs.Prelude.{◌≡◌, ◌≤◌, ◌<◌, ◌∷◌, ◌+◌, ◌*◌, ◌^◌, ℕ, []};
+ghost use Rattle.std.specs.Prelude.{◌≡◌, ◌≤◌, ◌<◌, ◌∷◌, ◌+◌, ◌*◌, ◌^◌, ℕ, [], sum_by};
 ghost use Rattle.rds_soft.specs.SoftTotals.{bits_in as the_bits_in, flipped_in as the_flipped_in, is_known as the_is_known, lost_in as the_lost_in, valid_in as the_valid_in};
 ghost use Rattle.rds_soft.specs.Inside.Totals.{clean};
 ghost use Rattle.rds_soft.specs.declared.soft_item.SoftItem.TheVariants as ASoftItem;
@@ -101,12 +101,12 @@ impl SoftTotals {
                 losses: 0,
             },
             flipped: [
-                flipped_by(1, one, two, three, four),
-                flipped_by(2, one, two, three, four),
-                flipped_by(3, one, two, three, four),
-                flipped_by(4, one, two, three, four),
-                flipped_by(5, one, two, three, four),
-                flipped_by(6, one, two, three, four),
+                flipped_by(1, &group.blocks),
+                flipped_by(2, &group.blocks),
+                flipped_by(3, &group.blocks),
+                flipped_by(4, &group.blocks),
+                flipped_by(5, &group.blocks),
+                flipped_by(6, &group.blocks),
             ],
         }
     }
@@ -132,17 +132,11 @@ impl SoftTotals {
 }
 
 /// How many of four blocks were corrected by this number of flips, 6 being six or more.
-fn flipped_by(
-    count: u32,
-    one: &SoftBlock,
-    two: &SoftBlock,
-    three: &SoftBlock,
-    four: &SoftBlock,
-) -> u64
-    ensures value { result ≡ the_flipped_in count one.now + the_flipped_in count two.now
-        + the_flipped_in count three.now + the_flipped_in count four.now }
+fn flipped_by(count: u32, blocks: &[SoftBlock; 4]) -> u64
+    ensures value { result ≡ sum_by (the_flipped_in count) blocks.now }
     ensures most { result ≤ 4 }
 {
+    let [one, two, three, four] = blocks;
     flipped_in(count, one)
         + flipped_in(count, two)
         + flipped_in(count, three)

@@ -1,10 +1,10 @@
 //! How the symbols of a window are read as a block.
-ghost use Rattle.std.specs.Prelude.{◌≡◌, ◌^◌, ◌<◌, length, bit_xor, IfSome, None};
-ghost use Rattle.rds_code.specs.{declared.offset.Offset.Offset as AnOffset, Reading.IsValid};
-ghost use Rattle.rds_soft.specs.Symbols.{sign, confidences as the_confidences, hard_window as the_hard_window};
+ghost use Rattle.std.specs.Prelude.{◌≡◌, ◌^◌, ◌<◌, length, bit_xor};
+ghost use Rattle.rds_code.specs.{Offsets.offset_of as the_offset_of, Remainder.rem};
+ghost use Rattle.rds_soft.specs.{ReadAgain.own_of, Symbols.sign, Symbols.confidences as the_confidences, Symbols.hard_window as the_hard_window};
 
 use crate::correction::Correction;
-use crate::laws::{symbols_are_read_alike, symbols_are_read_so};
+use crate::laws::symbols_are_read_so;
 use crate::lightest::SYMBOLS;
 use crate::margin::Margin;
 use crate::nearest::Search;
@@ -26,21 +26,22 @@ impl Search {
         ensures rule { IsSoftReading symbols.now number wanted margin result }
         ensures value { result ≡ soft_reading symbols.now number wanted margin }
     {
-        symbols_are_read_alike();
         symbols_are_read_so();
-        prove!(number.get() <= 4 && margin.weight() <= 127);
-        self.nearest_reading(symbols, number, wanted, margin)
+        prove!(number.get() <= 4);
+        prove!(margin.weight() <= 127);
+        self.computed(symbols, number, wanted, margin)
     }
 
-    /// The same by the rule alone.
-    fn nearest_reading(
+    /// The same, as it is computed.
+    #[tactic(auto, using(crate::proofs::ReadAgainLaws::inverted), unfolding(crate::specs::ReadAgain::soft_reading))]
+    fn computed(
         &mut self,
         symbols: &[i8; 27],
         number: BlockNumber,
         wanted: Wanted,
         margin: Margin,
     ) -> SoftReading
-        ensures { IsSoftReading symbols.now number wanted margin result }
+        ensures { result ≡ soft_reading symbols.now number wanted margin }
     {
         let w = hard_window(symbols);
         if let Some(offset) = own_offset(w, number) {
@@ -49,7 +50,7 @@ impl Search {
                 info: (w >> 10) as u16,
             };
         }
-        match self.nearest(w, &confidences(symbols), number, wanted, margin) {
+        match self.correction(w, &confidences(symbols), number, wanted, margin) {
             Some(Correction { offset, flips }) => SoftReading::Corrected {
                 offset,
                 info: ((w ^ mask_of(flips)) >> 10) as u16,
@@ -95,8 +96,7 @@ fn confidences(symbols: &[i8; 27]) -> [u8; 27]
 /// The offset of block `number` with which the window is valid.
 fn own_offset(w: u32, number: BlockNumber) -> Option<Offset>
     requires { w < 2 ^ 26 }
-    ensures valid { IfSome result (λ o. IsValid w number o) }
-    ensures none { result ≡ None → (o : AnOffset) → IsValid w number o → ⊥ }
+    ensures { result ≡ own_of (the_offset_of (rem w)) number }
 {
     match offset_of(rem26(w)) {
         Some(offset) if offset.number() == number => Some(offset),

@@ -1,11 +1,6 @@
 -- The rows of least weights.
 use Rattle.std.specs.Prelude.{◌≡◌, ℕ, ◌+◌, ◌<◌, ◌≤◌, length, slice_index, get_or, List, [], bit_xor, min}
-use Rattle.rds_soft.specs.Inside.Lightest.{least, of_none, lightest, second}
-
--- the row of no symbols
-pub record IsFirst (row : List ℕ) : Type 0 where
-  pub long : length row ≡ 1024
-  pub each : (s : ℕ) → s < 1024 → slice_index row s ≡ of_none s
+use Rattle.rds_soft.specs.Inside.Lightest.{least, lightest, second}
 
 -- each of the next row is the lesser of the two ways to its sum
 abbrev pub Follows : List ℕ → ℕ → ℕ → List ℕ → Type 0

@@ -4,7 +4,7 @@ use Rattle.std.specs.Prelude.{◌≡◌, ℕ, ◌+◌, ◌-◌, ◌*◌, ◌^◌
 use Rattle.rds_stream.specs.Recording.{AreGaps, Signal}
 use Rattle.rds_sync.specs.declared.{item.Item.Item, state.State.State}
 use Rattle.rds_live.specs.Gaps.{gaps_within}
-use Rattle.rds_soft.specs.{declared.soft_item.SoftItem.SoftItem, declared.soft_item.SoftItem.TheVariants.Acquired, declared.soft_item.SoftItem.TheVariants.Group, declared.soft_item.SoftItem.TheVariants.LostLock, declared.soft_totals.SoftTotals.SoftTotals, ReadAgain.item_again, ReadAgain.symbols_of, SoftStream.SoftTerms, SoftStream.complete, SoftStream.run_of, SoftTotals.AreAtMost, SoftTotals.soft_totals_of, Symbols.hard_bits}
+use Rattle.rds_soft.specs.{declared.near.Near.Near, declared.soft_item.SoftItem.SoftItem, declared.soft_item.SoftItem.TheVariants.Acquired, declared.soft_item.SoftItem.TheVariants.Group, declared.soft_item.SoftItem.TheVariants.LostLock, declared.soft_totals.SoftTotals.SoftTotals, ReadAgain.item_again, ReadAgain.symbols_of, SoftStream.SoftTerms, SoftStream.complete, SoftStream.run_of, SoftTotals.AreAtMost, SoftTotals.soft_totals_of, Symbols.hard_bits}
 
 -- how many symbols are kept: those of 239 bits, of which a run may hear 233 before a bit
 abbrev pub most_kept : ℕ
@@ -32,6 +32,10 @@ moved_again d (LostLock a) = LostLock (a + d)
 -- an item of a part from place d on, read again from the part's symbols
 abbrev pub again_in : Signal → List ℕ → ℕ → ℕ → Item → SoftItem
 again_in part symbols margin d item = moved_again d (item_again part (symbols_of symbols) margin item)
+
+-- the same of a part as the code has it
+abbrev pub near_again : Near → Item → SoftItem
+near_again near = again_in near.recording near.symbols.items near.margin near.before
 
 -- what a decoder knows once these symbols were heard
 pub record Knows (terms : SoftTerms) (symbols kept : List ℕ) (count : ℕ) (state : State) (totals : SoftTotals) : Type 0 where

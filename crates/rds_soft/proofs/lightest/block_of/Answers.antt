@@ -1,9 +1,5 @@
-use Rattle.rds_soft.proofs.Names.{◌+◌, ◌*◌, arith, get_or-chunk}
+use Rattle.rds_soft.proofs.Names.{◌*◌, get_or-chunk}
 use Rattle.rds_soft.proofs.lightest.block_of.Goals as goal
 
 pub returns-clause-each : goal.returns-clause-each
 returns-clause-each c j less = get_or-chunk (16 * c.args.block) 16 c.args.row.now j 0 less
-
-pub returns-clause-bytes : goal.returns-clause-bytes
-returns-clause-bytes c j less =
-    omega (arith, get_or-chunk (16 * c.args.block) 16 c.args.row.now j 0 less, c.type_inv.row (16 * c.args.block + j))

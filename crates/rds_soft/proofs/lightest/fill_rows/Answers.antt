@@ -1,5 +1,5 @@
-use Rattle.rds_soft.proofs.Names.{◌≡◌, ℕ, suc, ◌+◌, ◌<◌, List, [], length, get_or, set, sym, subst, ◌∙◌, arith, get_or-set_same, length-set, the_effect, confidence, Follows, AreLeast}
-use Rattle.rds_soft.proofs.RowLemmas.{first_are_least, next_are_least, one_row_more}
+use Rattle.rds_soft.proofs.Names.{common_steps, ◌≡◌, ℕ, suc, ◌+◌, ◌<◌, List, [], length, get_or, subst, ◌∙◌, arith, get_or-set_same, length-set, the_effect, confidence, Follows}
+use Rattle.rds_soft.proofs.RowLemmas.{next_are_least, one_row_more}
 use Rattle.rds_soft.proofs.lightest.fill_rows.Goals as goal
 
 pub loop-n-init : goal.loop-n-init
@@ -7,14 +7,11 @@ loop-n-init c =
     let confidences : List ℕ = c.args.confidences.now in
     let rows : List (List ℕ) = c.args.rows.now in
     let row : List ℕ = c.fill_first.new.row in
-    let first = first_are_least the_effect (confidence confidences) row c.fill_first.ensures in
+    let first = c.fill_first.ensures (confidence confidences) in
     let here : 0 < length rows = omega (arith, c.requires.rows) in
     record {
       long = length-set rows 0 row ∙ c.requires.rows;
-      done = λ k le.
-          let none : 0 ≡ k = omega (arith, le) in
-          subst (λ (j : ℕ). AreLeast the_effect (confidence confidences) j (get_or (set rows 0 row) j [])) none
-          (subst (AreLeast the_effect (confidence confidences) 0) (sym (get_or-set_same rows 0 row [] here)) first);
+      done = λ k le. grind (arith, common_steps, first, get_or-set_same rows 0 row [] here);
     }
 
 pub loop-n-preserved : goal.loop-n-preserved

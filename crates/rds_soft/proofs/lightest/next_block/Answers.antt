@@ -20,4 +20,4 @@ returns-clause-first c j less =
     c.smaller.ensures.each j less
     ∙ capped (slice_index c.block_of-kept.result j) (slice_index c.heavier.result j) (slice_index row (16 * c.args.block + j))
     (slice_index row (bit_xor (16 * c.args.block + j) e)) (slice_index c.turned-flipped.result j) c.args.confidence
-    (c.block_of-kept.ensures.each j less) (c.block_of-kept.ensures.bytes j less) flipped (c.heavier.ensures.each j less)
+    (c.block_of-kept.ensures.each j less) (omega (arith, c.block_of-kept.ensures.each j less, c.type_inv.row (16 * c.args.block + j))) flipped (c.heavier.ensures.each j less)

@@ -1,6 +1,6 @@
 use Rattle.rds_soft.proofs.Names.{◌++◌, ◌+◌, ◌-◌, ◌*◌, ◌^◌, ◌<◌, ◌∷◌, ◌∙◌, ℕ, List, [], ap, ap₂, arith, length, subst, sym, take_all, AreAtMost, plus, soft_totals_of, SoftItem, InSoft}
 use Rattle.rds_soft.specs.{Inside.Totals.clean, SoftLists.item_of, SoftLists.valid_group, declared.soft_totals.SoftTotals.SoftTotals}
-use Rattle.rds_soft.proofs.TotalsLemmas.{next_item, one_clean, plus-turned, soft_totals_of-append}
+use Rattle.rds_soft.proofs.TotalsLemmas.{next_item, one_clean, plus-turned, soft_totals_of_append}
 use Rattle.rds_soft.proofs.soft_stream.counted.Goals as goal
 use Rattle.rds_soft.proofs.soft_stream.counted.Goals.{in-Valid, in-Other}
 
@@ -17,7 +17,7 @@ plus-others-requires c =
 pub loop-i-init : goal.loop-i-init
 loop-i-init c = record {
   few = omega arith;
-  value = λ before is. ap (λ (t : SoftTotals). plus t (clean 0)) is ∙ sym (soft_totals_of-append before []);
+  value = λ before is. ap (λ (t : SoftTotals). plus t (clean 0)) is ∙ sym (soft_totals_of_append before []);
   small = λ most few. subst (λ (n : ℕ). AreAtMost n c.args.totals) (omega arith) few;
 }
 

@@ -1,10 +1,10 @@
-use Rattle.rds_soft.proofs.Names.{common_steps, arith, length, ◌≡◌, ◌++◌, ◌+◌, ◌^◌, ◌∷◌, ◌∙◌, ℕ, List, [], ap, ap₂, SoftItem}
+use Rattle.rds_soft.proofs.Names.{common_steps, arith, length, ◌≡◌, ◌++◌, ◌+◌, ◌^◌, ◌∷◌, ◌∙◌, List, [], ap, ap₂, SoftItem}
 use Rattle.rds_soft.specs.{Inside.Lists.items_at}
 use Rattle.rds_soft.proofs.ListLemmas.{items_pushed}
 use Rattle.rds_soft.proofs.soft_list.SoftList.push.Goals as goal
 
-pub returns : goal.returns
-returns c =
+pub returns-clause-appended : goal.returns-clause-appended
+returns-clause-appended c =
     let entries = c.self.inside.entries.items in
     let at : 2 ^ 63 + c.len.result ≡ 2 ^ 63 + length c.self.inside.others.items = grind (arith, common_steps) in
     ap₂ items_at c.in_ok-push.ensures.items c.in_ok-push-2.ensures.items

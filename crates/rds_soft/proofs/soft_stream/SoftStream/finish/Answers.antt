@@ -1,4 +1,4 @@
-use Rattle.rds_soft.proofs.Names.{◌≡◌, ◌++◌, ◌∙◌, ℕ, List, [], ap, ap₂, arith, subst, sym, SoftHeard, SoftTerms, complete, group_item, report_of, soft_totals_of, part_of, SoftGroup, SoftItem, Option, map, again_in, items_of_end, moved_back}
+use Rattle.rds_soft.proofs.Names.{common_steps, ◌≡◌, ◌++◌, ◌∙◌, ℕ, List, [], ap, ap₂, arith, subst, sym, SoftHeard, SoftTerms, complete, group_item, report_of, soft_totals_of, part_of, SoftGroup, Option}
 use Rattle.rds_soft.proofs.{AgainLaws.symbols_have_windows, StreamLemmas.closed, StreamLemmas.early-is, StreamLemmas.end-long, StreamLemmas.lawful-is, soft_stream.SoftStream.finish.Goals.After-end_near-group}
 use Rattle.rds_soft.proofs.soft_stream.SoftStream.finish.Goals as goal
 
@@ -23,15 +23,12 @@ module _ (c : After-end_near-group) where
 
   report_is : complete terms symbols ++ group_item c.end_near-group.result ≡ report_of terms symbols
   report_is =
-      ap (λ (items : List SoftItem). complete terms symbols ++ items)
-      (c.end_near-group.ensures
-      ∙ ap (λ (margin : ℕ). map (again_in c.in_ok-near.near.recording c.in_ok-near.near.symbols.items margin c.in_ok-near.near.before)
-      (items_of_end c.in_ok-near.near.recording c.self.inside.rules.now (moved_back c.in_ok-near.near.before c.self.inside.state))) c.in_ok-near.ensures.margin)
-      ∙ closed c.self.invariant c.acquisitions_are_late.ensures c.steps_are_lawful.ensures c.runs_are_lawful.ensures symbols_have_windows c.reach.ensures.range
+      let end = closed c.self.invariant c.acquisitions_are_late.ensures c.steps_are_lawful.ensures c.runs_are_lawful.ensures symbols_have_windows c.reach.ensures.range
       c.runs_are_reports.ensures c.ends_move.ensures c.in_ok-near.near.recording c.in_ok-near.near.symbols.items c.in_ok-near.near.before
       (omega (arith, c.in_ok-near.ensures.before, c.len.ensures))
       (c.in_ok-near.ensures.part ∙ ap₂ (λ (n : ℕ) (xs : List ℕ). part_of terms.gaps n (xs ++ [])) (sym c.in_ok-near.ensures.before) c.deref.ensures.value)
-      (c.in_ok-near.ensures.symbols ∙ ap (λ (xs : List ℕ). xs ++ []) c.deref.ensures.value)
+      (c.in_ok-near.ensures.symbols ∙ ap (λ (xs : List ℕ). xs ++ []) c.deref.ensures.value) in
+      grind (arith, common_steps, c.end_near-group.ensures, c.in_ok-near.ensures.margin, end)
 
 pub returns-clause-group : goal.returns-clause-group
 returns-clause-group c =

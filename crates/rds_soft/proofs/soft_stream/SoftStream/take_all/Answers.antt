@@ -1,4 +1,4 @@
-use Rattle.rds_soft.proofs.Names.{◌≡◌, ◌++◌, ◌+◌, ◌-◌, ◌*◌, ◌^◌, ◌<◌, ◌≤◌, ◌∙◌, ℕ, List, ap, ap₂, arith, length, map, subst, sym, All, length-append, length-map, Signal, length_of, run, Item, State, moved_state, moved_back, place_of, SoftHeard, SoftTerms, complete, run_of, soft_totals_of, again_in, last_symbols, part_of, SoftItem}
+use Rattle.rds_soft.proofs.Names.{common_steps, ◌≡◌, ◌++◌, ◌+◌, ◌-◌, ◌*◌, ◌^◌, ◌<◌, ◌≤◌, ◌∙◌, ℕ, List, ap, ap₂, arith, length, map, subst, sym, All, length-append, length-map, Signal, length_of, run, Item, State, moved_state, moved_back, place_of, SoftHeard, SoftTerms, complete, run_of, soft_totals_of, again_in, last_symbols, part_of, SoftItem}
 use Rattle.rds_soft.proofs.StreamLemmas.{at-most-more, before-is, complete-after, d, early-is, few-found, found-early, from, kept, kept-after, lawful-is, part-longer, run-is, state-after}
 use Rattle.rds_soft.proofs.{AgainLaws.symbols_have_windows, soft_stream.SoftStream.take_all.Given.Over, soft_stream.SoftStream.take_all.Goals.In_ok-found}
 use Rattle.rds_soft.proofs.soft_stream.SoftStream.take_all.Goals as goal
@@ -85,11 +85,7 @@ module _ (g : Over) (c : In_ok-found g) where
   again b xs before items = map (again_in b xs c.self.inside.margin before) items
 
   items_are : c.in_ok-found.found ≡ again part (kept symbols ++ more) (d symbols) found.1
-  items_are =
-      c.in_ok-found.ensures
-      ∙ ap (λ (margin : ℕ). map (again_in near c.in_ok-near.near.symbols.items margin c.in_ok-near.near.before) c.deref-3.result.now) c.in_ok-near.ensures.margin
-      ∙ ap₂ (λ (b : Signal) (xs : List ℕ). again b xs c.in_ok-near.near.before c.deref-3.result.now) near_part symbols_at
-      ∙ ap₂ (λ (before : ℕ) (items : List Item). again part (kept symbols ++ more) before items) before_at hard_are
+  items_are = grind (arith, common_steps, c.in_ok-found.ensures, c.in_ok-near.ensures.margin, near_part, symbols_at, before_at, hard_are)
 
   complete_is : complete terms all ≡ complete terms symbols ++ c.in_ok-found.found
   complete_is =
@@ -99,13 +95,10 @@ module _ (g : Over) (c : In_ok-found g) where
 
   few : length c.in_ok-found.found ≤ 2 * length more
   few =
-      omega (
-        arith,
-        ap (λ (xs : List SoftItem). length xs) items_are,
-        length-map found.1 (again_in part (kept symbols ++ more) c.self.inside.margin (d symbols)),
-        few-found c.acquisitions_are_late.ensures c.steps_are_lawful.ensures c.runs_are_lawful.ensures symbols_have_windows terms c.reach.ensures.range c.self.invariant.gaps symbols
-            c.runs_join.ensures c.runs_move.ensures more c.runs_give_few_items.ensures,
-      )
+      let whole = length-map found.1 (again_in part (kept symbols ++ more) c.self.inside.margin (d symbols)) in
+      let found_few = few-found c.acquisitions_are_late.ensures c.steps_are_lawful.ensures c.runs_are_lawful.ensures symbols_have_windows terms c.reach.ensures.range c.self.invariant.gaps
+      symbols c.runs_join.ensures c.runs_move.ensures more c.runs_give_few_items.ensures in
+      omega (arith, ap (λ (xs : List SoftItem). length xs) items_are, whole, found_few)
 
 pub counted-self-inside-requires : goal.counted-self-inside-requires
 counted-self-inside-requires g c =
