@@ -1,7 +1,7 @@
 -- Symbols that are decoded as they come: of all symbols those that count say the same.
-use Rattle.rds_tool.proofs.Names.{common_steps, arith, ◌≡◌, ◌<◌, ◌≤◌, ◌+◌, ◌-◌, ◌^◌, ◌++◌, ◌∷◌, ◌∙◌, Bool, Err, List, [], None, Ok, Option, Result, Some, ap, cases_lt, drop, false, flat_map, flat_map-map, if◌then◌else◌, inl, inr, le-ltb, lt-ltb, length, length-append, length-take, map, min, range_with_len, refl, report_items, sym, subst, take, take_all, true, ℕ, and_then, claimed_of, recording_of_symbols, hard_bit, symbols_of, soft_row, soft_text, soft_totals_text, AreGaps, RuleNumbers, Signal, SoftItem, SoftTerms, length_of, BadGaps, BitsPastBytes, TooLong, RdsError}
+use Rattle.rds_tool.proofs.Names.{common_steps, arith, ◌≡◌, ◌<◌, ◌≤◌, ◌+◌, ◌-◌, ◌^◌, ◌++◌, ◌∷◌, ◌∙◌, Bool, Err, List, [], None, Ok, Option, Result, Some, ap, cases_lt, drop, false, flat_map, if◌then◌else◌, inl, inr, le-ltb, lt-ltb, length, length-append, length-take, map, min, range_with_len, refl, report_items, sym, subst, take, take_all, true, ℕ, and_then, claimed_of, recording_of_symbols, hard_bit, symbols_of, soft_report_text, soft_row, soft_text, soft_totals_text, AreGaps, RuleNumbers, Signal, SoftItem, SoftTerms, length_of, BadGaps, BitsPastBytes, TooLong, RdsError}
 use Rattle.rds_tool.proofs.{CountedBytes.take_on, GapLists.are_gaps, GapLists.pass_as_gaps}
-use Rattle.rds_tool.specs.{Inside.HeldSymbols.HeldOf, Inside.HeldSymbols.IsHeld, Inside.HeldSymbols.most_heard, Inside.HeldSymbols.text_of_held, Inside.Takers.TakerTerms}
+use Rattle.rds_tool.specs.{Inside.HeldSymbols.HeldTerms, Inside.HeldSymbols.IsHeld, Inside.HeldSymbols.most_heard, Inside.HeldSymbols.text_of_held}
 use Rattle.rds_soft.specs.ReadAgain.{item_again}
 use Rattle.rds_soft.specs.{ReadAgain.group_again, ReadAgain.first_bit, ReadAgain.symbols_heard, SoftStream.SoftHeard, SoftStream.complete, SoftStream.group_item, SoftStream.report_of, SoftStream.signal_of, SoftTotals.soft_totals_of, Symbols.hard_bits, Symbols.sign, declared.soft_item.SoftGroup.SoftGroup, declared.soft_item.SoftItem.TheVariants.Group as InSoft, declared.soft_totals.SoftTotals.SoftTotals}
 use Rattle.rds_soft.proofs.PartLemmas.{length-bits, length-symbols}
@@ -83,26 +83,6 @@ module _ (held : List ℕ) (n : ℕ) (within : n ≤ length held - 1) where
 
 -- ---- the text
 
-abbrev no-row : Item → List ℕ
-no-row item = []
-
-no-rows : (items : List Item) → flat_map no-row items ≡ []
-no-rows [] = refl
-no-rows (item ∷ items) = no-rows items
-
--- the rows of a report, if rows are written
-abbrev rows-of : Bool → List SoftItem → List ℕ
-rows-of has_rows report = if has_rows then flat_map soft_row report else []
-
-row-parts : (has_rows : Bool) (rules : RuleNumbers) (margin : ℕ) (symbols : List ℕ) (b : Signal)
-    → let report = map (item_again b (symbols_of symbols) margin) (report_items b rules) in
-    soft_text has_rows rules margin symbols b ≡ rows-of has_rows report ++ soft_totals_text (soft_totals_of report)
-row-parts true rules margin symbols b =
-    ap (λ rows. rows ++ soft_totals_text (soft_totals_of (map (item_again b (symbols_of symbols) margin) (report_items b rules))))
-    (sym (flat_map-map soft_row (item_again b (symbols_of symbols) margin) (report_items b rules)))
-row-parts false rules margin symbols b =
-    ap (λ rows. rows ++ soft_totals_text (soft_totals_of (map (item_again b (symbols_of symbols) margin) (report_items b rules)))) (no-rows (report_items b rules))
-
 -- once the claim was looked at
 pub claim-is : (bits : Option ℕ) (count : ℕ) (held : List ℕ) → count ≡ min (length held) (2 ^ 64 - 1) → unwrap_or bits (count - 1) ≤ 2 ^ 36 → claimed_of bits held ≡ unwrap_or bits (count - 1)
 claim-is bits count held counts short = grind (arith, common_steps)
@@ -111,16 +91,13 @@ module _ (terms : SoftTerms) (bits : Option ℕ) (has_rows : Bool) (held : List 
   abbrev n : ℕ
   n = claimed_of bits held
 
-  abbrev all : HeldOf
-  all = record {
-    terms = record { input = record { hex = false; bits = bits; gaps = terms.gaps }; rules = terms.rules; margin = terms.margin; has_rows = has_rows };
-    symbols = held;
-  }
+  abbrev of : HeldTerms
+  of = record { input = record { hex = false; bits = bits; gaps = terms.gaps }; rules = terms.rules; margin = terms.margin; has_rows = has_rows }
 
   pub those-that-count : take (most_heard bits) held ≡ take (n + 1) held
   those-that-count = grind (arith, common_steps)
 
-  pub bad-gaps : (AreGaps n terms.gaps → ⊥) → text_of_held all ≡ Err BadGaps
+  pub bad-gaps : (AreGaps n terms.gaps → ⊥) → text_of_held of held ≡ Err BadGaps
   bad-gaps none = grind (arith, common_steps, are_gaps, le-ltb, short, within)
 
   abbrev counted : List ℕ
@@ -140,13 +117,10 @@ module _ (terms : SoftTerms) (bits : Option ℕ) (has_rows : Bool) (held : List 
       same-items held n within whole (length-map-range_with_len (hard_bit (symbols_of held)) 0 n) terms.margin (report_items whole terms.rules)
       ∙ ap (λ (b : Signal). map (item_again b (symbols_of counted) terms.margin) (report_items b terms.rules)) whole-is
 
-  pub held-text : AreGaps n terms.gaps → text_of_held all ≡ Ok (rows-of has_rows report ++ soft_totals_text (soft_totals_of report))
+  pub held-text : AreGaps n terms.gaps → text_of_held of held ≡ Ok (soft_report_text has_rows report)
   held-text are =
       rw (le-ltb (2 ^ 36) n short, le-ltb (length held - 1) n within, pass_as_gaps terms.gaps n are)
-      (ap (λ t. Ok t) (row-parts has_rows terms.rules terms.margin held whole ∙ ap (λ (items : List SoftItem). rows-of has_rows items ++ soft_totals_text (soft_totals_of items)) report-is))
-
-pub same_terms : (a b : TakerTerms) → Some a ≡ Some b → a ≡ b
-same_terms a b p = cc
+      (ap (λ (items : List SoftItem). Ok (soft_report_text has_rows items)) report-is)
 
 -- gaps that no recording may have
 wider : (n : ℕ) (gaps : List (ℕ × ℕ)) → n ≤ 2 ^ 36 → AreGaps n gaps → AreGaps (2 ^ 36) gaps
@@ -195,23 +169,23 @@ module _ (stream : SoftHeard) (bits : Option ℕ) (has_rows : Bool) (items : Lis
     long = ap (λ (xs : List ℕ). length xs - 1) heard-is ∙ heard-long held (claimed_of bits held) within
 
     abbrev text : Result (List ℕ) RdsError
-    text = text_of_held (all stream.terms bits has_rows held short within)
+    text = text_of_held (of stream.terms bits has_rows held short within) held
 
     pub refused-gaps : (AreGaps (length stream.symbols - 1) stream.terms.gaps → ⊥) → text ≡ Err BadGaps
     refused-gaps none = bad-gaps stream.terms bits has_rows held short within (λ are. none (subst (λ (m : ℕ). AreGaps m stream.terms.gaps) (sym long) are))
 
     module _ (are : AreGaps (length stream.symbols - 1) stream.terms.gaps) (totals : SoftTotals) (sum : totals ≡ soft_totals_of (report_of stream.terms stream.symbols)) where
-      said : text ≡ Ok (rows-of has_rows (report_of stream.terms stream.symbols) ++ soft_totals_text totals)
-      said =
+      said : (h : Bool) → has_rows ≡ h → text ≡ Ok ((if h then flat_map soft_row (report_of stream.terms stream.symbols) else []) ++ soft_totals_text totals)
+      said h asked =
           held-text stream.terms bits has_rows held short within (subst (λ (m : ℕ). AreGaps m stream.terms.gaps) long are)
-          ∙ ap (λ (xs : List ℕ). Ok (rows-of has_rows (report_of stream.terms xs) ++ soft_totals_text (soft_totals_of (report_of stream.terms xs)))) (sym heard-is)
-          ∙ ap (λ (t : SoftTotals). Ok (rows-of has_rows (report_of stream.terms stream.symbols) ++ soft_totals_text t)) (sym sum)
+          ∙ ap₂ (λ (h : Bool) (xs : List ℕ). Ok (soft_report_text h (report_of stream.terms xs))) asked (sym heard-is)
+          ∙ ap (λ (t : SoftTotals). Ok ((if h then flat_map soft_row (report_of stream.terms stream.symbols) else []) ++ soft_totals_text t)) (sym sum)
 
       pub rows-made : has_rows ≡ true → (group : Option SoftGroup) (list : List SoftItem) → list ≡ items ++ group_item group
           → complete stream.terms stream.symbols ++ group_item group ≡ report_of stream.terms stream.symbols → text ≡ Ok (flat_map soft_row list ++ soft_totals_text totals)
       rows-made asked group list made whole =
-          said ∙ ap (λ (h : Bool). Ok (rows-of h (report_of stream.terms stream.symbols) ++ soft_totals_text totals)) asked
+          said true asked
           ∙ ap (λ (xs : List SoftItem). Ok (flat_map soft_row xs ++ soft_totals_text totals)) (sym (made ∙ ap (λ (xs : List SoftItem). xs ++ group_item group) (is.listed asked) ∙ whole))
 
       pub totals-made : has_rows ≡ false → text ≡ Ok (soft_totals_text totals)
-      totals-made asked = said ∙ ap (λ (h : Bool). Ok (rows-of h (report_of stream.terms stream.symbols) ++ soft_totals_text totals)) asked
+      totals-made asked = said false asked

@@ -20,5 +20,5 @@ pub use Rattle.rds_rows.specs.{Sheets.left_of, Sheets.size_of, Sheets.text_of, W
 pub use Rattle.rds_tool.specs.CommandLine.{IsFault, Makes, MayAnswer, ReadsAs, gaps_asked_for, gaps_spelled, if_given, is_given, is_of_words, is_true, job_in, number_of, number_up_to, rds_app, report_job_of, request_of, stream_of, with_progress}
 pub use Rattle.rds_tool.specs.Following.{AreAsked, BreaksOff, Follows, HasAll, IsFlushedAfter, IsFollowed, IsHeardOut, IsLong, IsShort as IsShortOf, MayBreakOff, Stream, bit_stream, claim_or, counted, listed, most_read, rows_so_far, stream_text}
 pub use Rattle.rds_tool.specs.Listing.{block_text, dash, hex_digits, item_fields, item_row, kind_text, named_totals, report_text, row, scan_text, total_row, totals_text, version_text, window_row, word_text}
-pub use Rattle.rds_tool.specs.{Cuts.are_inner, Cuts.cuts_any, Cuts.cuts_bits, Cuts.has_pieces, Cuts.places_at, Cuts.rise_between, GapText.and_gaps, GapText.each_gap, GapText.gap_of, GapText.gaps_of, GapText.is_place, GapText.place_of, GroupText.encoded_text, GroupText.group_text, GroupText.is_space, GroupText.line_text, GroupText.lines_of, GroupText.lines_text, GroupText.words_of, GroupText.words_or_refusal, History.Gave, Input.and_then, Input.bytes_of, Input.claimed, Input.decoded, Input.first_bits, Input.may_be_gaps, Input.or_hex_text, Input.recording_of, InputOf.InputOf, Inside.Commands.app_of_row, Inside.Commands.bare_app, Inside.Commands.rule_of_row, Inside.Commands.with_command, Inside.Commands.with_each, Inside.Commands.with_option, Inside.Counters.CounterOf, Inside.Counters.InputCounterOf, Inside.Counters.IsCounter, Inside.Counters.IsTextOf, Inside.Counters.claimed_by, Inside.Counters.whole, Inside.RowWriter.IsPlain, Inside.RowWriter.IsShort, Inside.Rows.row_where, Inside.Rows.rows_of_places, Inside.Streams.Breaks, Inside.Streams.IsHeard, Inside.Streams.IsNear, Inside.Streams.IsPlaceOf, Inside.Streams.IsShortEnough, Inside.Streams.bits_left, Laws.EncodedGroupsAreListed, Laws.EncodedGroupsAreTaken, Laws.ListsEndWithTotals, Laws.StreamsAreListed, Laws.groups_of_lines, Laws.stream_input, Laws.whole_input, Outcome.IsOutside, Outcome.Writes, Outcome.WritesPrefix, Outcome.cut_recording, Outcome.list_text, Outcome.result_of_job, Outcome.text_of_task, Outcome.totals_list, Plans.PlanOf, Plans.crew_of, Plans.cut_by, Plans.plan_of, Plans.workers_of, Rules.loss_of, Rules.rules_of, Soft.claimed_of, Soft.listed_by, Soft.named_flips, Soft.recording_of_symbols, Soft.soft_block_text, Soft.soft_row, Soft.soft_text, Soft.soft_totals_text, SoftFollowing.most_symbols, SoftFollowing.soft_listed, SoftFollowing.soft_rows_so_far, SoftFollowing.soft_stream_text, SoftFollowing.symbol_stream, Tasks.task_of, WellFormed.AreInOrder, WellFormed.DifferInGaps, WellFormed.GapsHideBits, WellFormed.HasRows, WellFormed.ListsAreWellFormed, WellFormed.Next, WellFormed.RowsBeginLists, WellFormed.at_first, WellFormed.bits_of_item, WellFormed.is_in_gap, WellFormed.was_read, declared.job.Asked.Asked, declared.job.Cuts.Cuts, declared.job.Input.Input, declared.job.Job.Job, declared.job.Job.TheVariants.Encode, declared.job.Job.TheVariants.Scan, declared.job.Settings.Settings, declared.task.Task.Task}
+pub use Rattle.rds_tool.specs.{Cuts.are_inner, Cuts.cuts_any, Cuts.cuts_bits, Cuts.has_pieces, Cuts.places_at, Cuts.rise_between, GapText.and_gaps, GapText.each_gap, GapText.gap_of, GapText.gaps_of, GapText.is_place, GapText.place_of, GroupText.encoded_text, GroupText.group_text, GroupText.is_space, GroupText.line_text, GroupText.lines_of, GroupText.lines_text, GroupText.words_of, GroupText.words_or_refusal, History.Gave, Input.and_then, Input.bytes_of, Input.claimed, Input.decoded, Input.first_bits, Input.may_be_gaps, Input.or_hex_text, Input.recording_of, InputOf.InputOf, Inside.Commands.app_of_row, Inside.Commands.bare_app, Inside.Commands.rule_of_row, Inside.Commands.with_command, Inside.Commands.with_each, Inside.Commands.with_option, Inside.Counters.CounterOf, Inside.Counters.InputCounterOf, Inside.Counters.IsCounter, Inside.Counters.IsTextOf, Inside.Counters.claimed_by, Inside.Counters.whole, Inside.RowWriter.IsPlain, Inside.RowWriter.IsShort, Inside.Rows.row_where, Inside.Rows.rows_of_places, Inside.Streams.Breaks, Inside.Streams.IsHeard, Inside.Streams.IsNear, Inside.Streams.IsPlaceOf, Inside.Streams.IsShortEnough, Inside.Streams.bits_left, Laws.EncodedGroupsAreListed, Laws.EncodedGroupsAreTaken, Laws.ListsEndWithTotals, Laws.StreamsAreListed, Laws.groups_of_lines, Laws.stream_input, Laws.whole_input, Outcome.IsOutside, Outcome.Writes, Outcome.WritesPrefix, Outcome.cut_recording, Outcome.list_text, Outcome.result_of_job, Outcome.text_of_task, Outcome.totals_list, Plans.PlanOf, Plans.crew_of, Plans.cut_by, Plans.plan_of, Plans.workers_of, Rules.loss_of, Rules.rules_of, Soft.claimed_of, Soft.named_flips, Soft.recording_of_symbols, Soft.soft_block_text, Soft.soft_report_text, Soft.soft_row, Soft.soft_text, Soft.soft_totals_text, SoftFollowing.most_symbols, SoftFollowing.soft_listed, SoftFollowing.soft_rows_so_far, SoftFollowing.soft_stream_text, SoftFollowing.symbol_stream, Tasks.task_of, WellFormed.AreInOrder, WellFormed.DifferInGaps, WellFormed.GapsHideBits, WellFormed.HasRows, WellFormed.ListsAreWellFormed, WellFormed.Next, WellFormed.RowsBeginLists, WellFormed.at_first, WellFormed.bits_of_item, WellFormed.is_in_gap, WellFormed.was_read, declared.job.Asked.Asked, declared.job.Cuts.Cuts, declared.job.Input.Input, declared.job.Job.Job, declared.job.Job.TheVariants.Encode, declared.job.Job.TheVariants.Scan, declared.job.Settings.Settings, declared.task.Task.Task}
 unfoldable pub use Rattle.rds_tool.specs.Input.{is_blank}

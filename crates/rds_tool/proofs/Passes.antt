@@ -1,5 +1,5 @@
 -- A run that is gone over once, and the text and the counts that it gives.
-use Rattle.rds_tool.proofs.Names.{common_steps, ◌≡◌, ◌++◌, ℕ, List, Option, Result, Ok, Err, ap, arith, append_assoc, subst, sym, ◌∙◌, OnErr, flat_map, Appends, Appends-trans, flat_map-append, AppendsPrefix, Signal, length_of, DecoderOf, decoder_of, RunsAreReports, IsLossRule, report_items, RuleNumbers, items_of_end, Item, State, Searching, listed_by}
+use Rattle.rds_tool.proofs.Names.{common_steps, ◌≡◌, ◌++◌, ℕ, List, Option, Result, Ok, Err, ap, arith, append_assoc, subst, sym, ◌∙◌, OnErr, OnOk, flat_map, Appends, Appends-trans, flat_map-append, AppendsPrefix, Signal, length_of, DecoderOf, decoder_of, RunsAreReports, IsLossRule, report_items, RuleNumbers, items_of_end, Item, State, Searching, item_row, list_text, totals_of, totals_text}
 
 -- ---- the text that was written
 
@@ -22,6 +22,10 @@ module _ {T E : Type 0} where
   err_more (Ok x) a b c xs ys zs e p q = tt
   err_more (Err x) a b c xs ys zs e p q = subst (λ (ws : List ℕ). AppendsPrefix a c ws) e (prefix_more a b c xs ys p q)
 
+  pub ok_more : (r : Result T E) (a b c : Option (List ℕ)) (xs ys zs : List ℕ) → xs ++ ys ≡ zs → Appends a b xs → OnOk r (Appends b c ys) → OnOk r (Appends a c zs)
+  ok_more (Ok x) a b c xs ys zs e p q = subst (λ (ws : List ℕ). Appends a c ws) e (Appends-trans a b c xs ys p q)
+  ok_more (Err x) a b c xs ys zs e p q = tt
+
 -- the first failed
 pub prefix_first : (a b : Option (List ℕ)) (xs ys zs : List ℕ) → xs ++ ys ≡ zs → AppendsPrefix a b xs → AppendsPrefix a b zs
 prefix_first a b xs ys zs e p = subst (λ (ws : List ℕ). AppendsPrefix a b ws) e (prefix_wider a b xs ys p)
@@ -33,23 +37,18 @@ module _ (b : Signal) (rules : RuleNumbers) (len : ℕ) (is : len ≡ length_of 
   whole_report : RunsAreReports → (end : State) → end ≡ d.end → d.items ++ items_of_end b rules end ≡ report_items b rules
   whole_report reports end ends = grind (arith, common_steps)
 
-  -- what is listed of them
-  pub report_rows : (row : Item → List ℕ) (totals : List Item → List ℕ) → RunsAreReports → (end : State) → end ≡ d.end
-      → flat_map row d.items ++ (flat_map row (items_of_end b rules end) ++ totals (d.items ++ items_of_end b rules end))
-      ≡ listed_by row totals (report_items b rules)
-  report_rows row totals reports end ends = grind (arith, common_steps, append_assoc, flat_map-append, whole_report)
+  -- so is the list
+  pub report_rows : RunsAreReports → (end : State) → end ≡ d.end → (last : List Item) → last ≡ items_of_end b rules end
+      → flat_map item_row d.items ++ (flat_map item_row last ++ totals_text (totals_of (d.items ++ last))) ≡ list_text rules b
+  report_rows reports end ends last is =
+      let totals = totals_text (totals_of (d.items ++ last)) in
+      sym (append_assoc (flat_map item_row d.items) (flat_map item_row last) totals)
+      ∙ ap (λ (rows : List ℕ). rows ++ totals) (sym (flat_map-append item_row d.items last))
+      ∙ ap (λ (items : List Item). flat_map item_row items ++ totals_text (totals_of items)) (ap (λ (xs : List Item). d.items ++ xs) is ∙ whole_report reports end ends)
 
 -- ---- the rows of a part
 
-module _ (row : Item → List ℕ) where
-  -- those of what is done, of a part and of the rest
-  pub parted_rows : (all done left part rest slice : List Item) → all ≡ done ++ left → left ≡ part ++ rest → slice ≡ part
-      → flat_map row done ++ (flat_map row slice ++ flat_map row rest) ≡ flat_map row all
-  parted_rows all done left part rest slice first next same = grind (arith, common_steps, flat_map-append)
-
--- ---- if no part is left
-
--- what is listed last, by the same rows
-pub same_end : (row row' : Item → List ℕ) (totals totals' : List Item → List ℕ) (before items last : List Item) → row' ≡ row → totals' ≡ totals
-    → items ≡ last → flat_map row' items ++ totals' (before ++ items) ≡ flat_map row last ++ totals (before ++ last)
-same_end row row' totals totals' before items last same_row same_totals same = grind (arith, common_steps)
+-- those of what is done, of a part and of the rest
+pub parted_rows : (all done left part rest : List Item) → all ≡ done ++ left → left ≡ part ++ rest
+    → flat_map item_row done ++ (flat_map item_row part ++ flat_map item_row rest) ≡ flat_map item_row all
+parted_rows all done left part rest first next = grind (arith, common_steps, flat_map-append)

@@ -1,5 +1,5 @@
 -- How far a stream of symbols was followed, and where it breaks off.
-use Rattle.rds_tool.proofs.Names.{common_steps, ◌≡◌, ◌≢◌, ◌+◌, ◌-◌, ◌^◌, ◌<◌, ◌≤◌, ◌++◌, ◌⊎◌, ◌↔◌, ◌∙◌, Bool, ℕ, List, [], None, Ok, Option, Result, Some, inl, inr, length, map, true, sym, ap, subst, arith, append_assoc, IfErr, IfSome, IsErrOf, OnErr, OnOk, flat_map, range_with_len, Appends, IsAtEnd, le-ltb, flat_map-append, append-nil, length-append, map-append, flat_map-map, item_again, symbols_of, SoftTerms, group_item, read_again, hard_bit, SoftItem, AreGaps, length_of, RunsAreReports, IsLossRule, items_of_end, run, Searching, AreAsked, Follows, HasAll, IsShortOf as IsShort, claim_or, Breaks, IsHeard, IsNear, WritesPrefix, claimed_of, soft_row, soft_text, soft_totals_text, soft_listed, soft_rows_so_far, soft_stream_text, symbol_stream, RdsError, BadGaps, BitsPastBytes, OutOfMemory, TooLong, Write}
+use Rattle.rds_tool.proofs.Names.{common_steps, ◌≡◌, ◌≢◌, ◌+◌, ◌-◌, ◌^◌, ◌<◌, ◌≤◌, ◌++◌, ◌⊎◌, ◌↔◌, ◌∙◌, Bool, ℕ, List, [], None, Ok, Option, Result, Some, inl, inr, length, map, true, sym, ap, subst, arith, append_assoc, IfErr, IfSome, IsErrOf, OnErr, OnOk, flat_map, range_with_len, Appends, IsAtEnd, le-ltb, flat_map-append, append-nil, length-append, map-append, item_again, symbols_of, SoftTerms, group_item, read_again, hard_bit, SoftItem, AreGaps, length_of, RunsAreReports, IsLossRule, items_of_end, run, Searching, AreAsked, Follows, HasAll, IsShortOf as IsShort, claim_or, Breaks, IsHeard, IsNear, WritesPrefix, claimed_of, soft_row, soft_text, soft_totals_text, soft_listed, soft_rows_so_far, soft_stream_text, symbol_stream, RdsError, BadGaps, BitsPastBytes, OutOfMemory, TooLong, Write}
 use Rattle.rds_tool.{specs.declared.devices.Source.Ghosts as Source, proofs.Followed.IsOfStream, proofs.Followed.breaks_still, proofs.Followed.follows_end, proofs.Followed.near_end, proofs.Followed.read_none, proofs.GapLists.pass_as_gaps}
 use Rattle.rds_rows.specs.declared.sink.Sink.{Ghosts as Sink}
 use Rattle.rds_soft.{specs.SoftStream.complete, specs.SoftStream.report_of, specs.SoftStream.run_of, specs.SoftStream.signal_of, specs.SoftTotals.soft_totals_of, specs.declared.soft_item.SoftGroup.SoftGroup, specs.declared.soft_totals.SoftTotals.SoftTotals, proofs.PartLemmas.length-bits, proofs.PartLemmas.length-symbols}
@@ -10,13 +10,10 @@ module _ (terms : SoftTerms) (symbols : List ℕ) where
   abbrev ending : List SoftItem → List ℕ
   ending items = soft_totals_text (soft_totals_of items)
 
-  text-is : soft_stream_text terms symbols ≡ flat_map soft_row (report_of terms symbols) ++ ending (report_of terms symbols)
-  text-is = grind (arith, common_steps, flat_map-map)
-
   -- the rows so far, and the rest
   text-split : (last : List SoftItem) → complete terms symbols ++ last ≡ report_of terms symbols
       → soft_stream_text terms symbols ≡ soft_rows_so_far terms symbols ++ (flat_map soft_row last ++ ending (report_of terms symbols))
-  text-split last whole = grind (arith, common_steps, text-is, flat_map-append, append_assoc)
+  text-split last whole = grind (arith, common_steps, flat_map-append, append_assoc)
 
   pub text-ends : (group : Option SoftGroup) (totals : SoftTotals) (text : List ℕ) → complete terms symbols ++ group_item group ≡ report_of terms symbols
       → totals ≡ soft_totals_of (report_of terms symbols) → text ≡ flat_map soft_row (group_item group) ++ soft_totals_text totals

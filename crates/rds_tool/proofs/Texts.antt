@@ -2,6 +2,7 @@
 use Rattle.rds_tool.proofs.Names.{common_steps, ◌↔◌, arith, ◌∙◌, ◌≡◌, ◌<◌, ◌≢◌, Bool, Err, List, Ok, Option, Result, [], ◌∷◌, ap, ap₂, if◌then◌else◌, inl, inr, subst, sym, true, ℕ, IfErr, IfSome, OnOk, Appends, Signal, length_of, FromHexError, ItemsOf, report_items, RuleNumbers, totals_of, TotalsOf, cuts_any, cuts_bits, has_pieces, line_text, lines_text, words_or_refusal, and_then, decoded, or_hex_text, recording_of, report_text, totals_text, Writes, WritesPrefix, cut_recording, list_text, result_of_job, text_of_task, totals_list, recording_of_symbols, PlanOf, crew_of, cut_by, plan_of, workers_of, Loss, IsMemoryOrErrOf, loss_of, task_of, RdsError, BadCutting, BadGaps, BitsPastBytes, BurstRange, NoWorker, OutOfMemory, ReachRange, Read, TooLong, TooManyTurns, Write, Cuts, Input, Job, Settings, Task}
 use Rattle.rds_tool.proofs.Passing.{passed_kind}
 use Rattle.rds_sync.specs.{Decoding.listed, declared.report.Report.Report}
+use Rattle.rds_tool.specs.Inside.Counters.{text_of_counted}
 use Rattle.rds_tool.specs.declared.task.Task.TheVariants as task
 use Rattle.rds_rows.specs.{Written.IsWritten, declared.error.RowsError.RowsError}
 
@@ -13,6 +14,15 @@ any_fits cuts any n = grind (arith, common_steps)
 
 pub any_cut : (cuts : Cuts) → cuts_any cuts ≡ true → (bits : Signal) → cut_by cuts bits ≡ Ok bits
 any_cut cuts any bits = ap (λ (t : Bool). if t then Ok bits else Err BadCutting) (any_fits cuts any (length_of bits))
+
+uncut : (cuts : Cuts) → cuts_any cuts ≡ true → (made : Result Signal RdsError) → made ≡ and_then made (cut_by cuts)
+uncut cuts any (Ok bits) = sym (any_cut cuts any bits)
+uncut cuts any (Err e) = cc
+
+-- the totals of a recording that any cutting may cut
+pub totals_uncut : (input : Input) (plan : PlanOf) (held : List ℕ) → cuts_any plan.cuts ≡ true
+    → text_of_counted input plan.rules held ≡ text_of_task (task.Totals input plan) held
+totals_uncut input plan held any = ap (λ (made : Result Signal RdsError). and_then made (λ recording. Ok (totals_list plan.rules recording))) (uncut plan.cuts any (recording_of input held))
 
 module _ (input : Input) (plan : PlanOf) (held : List ℕ) (bits : Signal) where
   cut : recording_of input held ≡ Ok bits → cut_by plan.cuts bits ≡ Ok bits → cut_recording input plan.cuts held ≡ Ok bits

@@ -4,10 +4,9 @@ pub mod Digits
 pub mod GroupLines
 pub mod HeldSymbols
 pub mod HexText
-pub mod Listers
+pub mod OnePass
 pub mod RowWriter
 pub mod Rows
 pub mod Streams
 pub mod Texts
 pub mod Commands
-pub mod Takers

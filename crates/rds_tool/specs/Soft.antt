@@ -62,19 +62,11 @@ soft_totals_text totals = totals_text totals.totals ++ flat_map total_row (named
 
 -- ---- a whole report
 
--- the row of an item that is read again, if rows are written
-abbrev pub row_again : Bool → Signal → List ℕ → ℕ → Item → List ℕ
-row_again has_rows recording symbols margin item = if has_rows then soft_row (item_again recording (symbols_of symbols) margin item) else []
-
--- the rows of the totals of these items, once they are read again
-abbrev pub totals_again : Signal → List ℕ → ℕ → List Item → List ℕ
-totals_again recording symbols margin items = soft_totals_text (soft_totals_of (map (item_again recording (symbols_of symbols) margin) items))
-
--- the rows of these items, and then those of their totals
-abbrev pub listed_by : (Item → List ℕ) → (List Item → List ℕ) → List Item → List ℕ
-listed_by row end items = flat_map row items ++ end items
+-- the rows of these items, if rows are written, and then those of their totals
+abbrev pub soft_report_text : Bool → List SoftItem → List ℕ
+soft_report_text has_rows items = (if has_rows then flat_map soft_row items else []) ++ soft_totals_text (soft_totals_of items)
 
 -- the listing of symbols, or only its totals: the rules give the report of their bits, the margin how each item is read again
 abbrev pub soft_text : Bool → RuleNumbers → ℕ → List ℕ → Signal → List ℕ
 soft_text has_rows rules margin symbols recording =
-    listed_by (row_again has_rows recording symbols margin) (totals_again recording symbols margin) (report_items recording rules)
+    soft_report_text has_rows (map (item_again recording (symbols_of symbols) margin) (report_items recording rules))

@@ -9,7 +9,9 @@ ghost use Rattle.rds_tool.specs.Inside.Counters.{claimed_by, whole};
 
 use crate::Input;
 use crate::input::decode_digits;
+use crate::listing::totals_rows;
 use crate::taker::Taker;
+use crate::task::Text;
 use rds_code::RdsError;
 use rds_live::{StreamCounter, StreamDecoder};
 use rds_stream::{MOST_BITS, Trace};
@@ -186,7 +188,7 @@ impl<'a> InputCounter<'a> {
     }
 
     /// The totals of the recording, all of which has come.
-    pub fn finish<R: Threads + Sync>(self, rt: &R, alloc: Global) -> Result<Totals, RdsError>
+    fn totals<R: Threads + Sync>(self, rt: &R, alloc: Global) -> Result<Totals, RdsError>
         ensures totals { IfOk result (λ totals. (recording : Signal)
             × (recording_of self.entry.input self.entry.text ≡ Ok recording)
             × (totals ≡ totals_of (report_items recording self.entry.rules))) }
@@ -199,15 +201,12 @@ impl<'a> InputCounter<'a> {
     }
 }
 
-impl<'a> Taker for InputCounter<'a> {
+impl<'t> Taker<'t> for InputCounter<'_> {
+    ghost use Rattle.rds_tool.specs.Inside.Counters.{text_of_counted};
+
     ghost taken = { λ counter. counter.text };
 
-    ghost terms = { λ counter. Some (record {
-      input = counter.input;
-      rules = counter.rules;
-      margin = 0;
-      has_rows = false;
-    }) };
+    ghost text = { λ counter. text_of_counted counter.input counter.rules };
 
     fn take<R: Threads + Sync>(
         &mut self,
@@ -231,5 +230,10 @@ impl<'a> Taker for InputCounter<'a> {
             Err(_) => self.strange = true,
         }
         Ok(())
+    }
+
+    fn finish<R: Threads + Sync>(self, rt: &R, alloc: Global) -> Result<Text<'t>, RdsError> {
+        let totals = self.totals(rt, alloc)?;
+        Ok(Text::Whole(totals_rows(alloc, &totals)?))
     }
 }

@@ -1,21 +1,17 @@
 //! From a reader to a writer.
 ghost use Rattle.std.specs.Prelude.{◌+◌, ◌++◌, ◌<◌, ◌^◌, ◌≡◌, ◌≤◌, ◌⊎◌, ◌↔◌, IfErr, IfOk, IfSome, IsErrOf, List, [], Ok, OnOk, false, length, true, ℕ};
 ghost use Rattle.std.specs.Io.KnownBytes.{Consumes, IsAtEnd};
-ghost use Rattle.rds_stream.specs.Recording.{AreGaps};
-ghost use Rattle.rds_tool.specs.{Cuts.cuts_any, History.Gave, Tasks.task_of, Transcribed.IsTranscribed};
-ghost use Rattle.rds_tool.specs.declared.task.Task.TheVariants as task;
+ghost use Rattle.rds_tool.specs.{History.Gave, Outcome.text_of_task, Tasks.task_of, Transcribed.IsTranscribed};
 
 use crate::counting::InputCounter;
-use crate::group_lines::GroupLines;
+use crate::group_lines::HeldLines;
 use crate::held_symbols::HeldSymbols;
-use crate::listing::totals_rows;
 use crate::taker::Taker;
-use crate::task::{Plan, Task, Text};
-use crate::{Failed, Input, Job, Sink, Source};
+use crate::task::Task;
+use crate::{Failed, Job, Sink, Source};
 use rds_code::RdsError;
 use rds_crew::{Gate, OpenGate};
 use rds_live::may_have_gaps;
-use rds_soft::Margin;
 use std::alloc::{AllocError, Global};
 use std::thread::Threads;
 
@@ -95,86 +91,43 @@ fn transcribe_task<R: Threads + Sync, S: Source, K: Sink, G: Gate + Sync>(
     match task {
         Task::Totals(input, plan) => {
             if plan.is_cut_evenly() && !gate.wants_calls() && may_have_gaps(input.gaps.as_slice()) {
-                transcribe_totals(rt, alloc, reader, writer, &input, &plan)
-            } else {
-                transcribe_held(rt, alloc, reader, writer, Task::Totals(input, plan), gate)
+                let counter = InputCounter::new(alloc, &input, plan.rules(), plan.workers())?;
+                return transcribe_by(rt, alloc, reader, writer, counter);
             }
+            transcribe_held(rt, alloc, reader, writer, Task::Totals(input, plan), gate)
         }
         Task::Soft(input, plan, margin, has_rows) => {
             if may_have_gaps(input.gaps.as_slice()) {
-                transcribe_symbols(rt, alloc, reader, writer, &input, &plan, margin, has_rows)
-            } else {
-                let soft = Task::Soft(input, plan, margin, has_rows);
-                transcribe_held(rt, alloc, reader, writer, soft, gate)
+                let symbols = HeldSymbols::new(alloc, &input, &plan, margin, has_rows)?;
+                return transcribe_by(rt, alloc, reader, writer, symbols);
             }
+            let soft = Task::Soft(input, plan, margin, has_rows);
+            transcribe_held(rt, alloc, reader, writer, soft, gate)
         }
-        Task::Encode { hex } => transcribe_groups(rt, alloc, reader, writer, hex),
-        held => transcribe_held(rt, alloc, reader, writer, held, gate),
+        Task::Encode { hex } => {
+            transcribe_by(rt, alloc, reader, writer, HeldLines::new(alloc, hex))
+        }
+        task => transcribe_held(rt, alloc, reader, writer, task, gate),
     }
 }
 
-/// Keeps the groups that the lines of the reader spell, and writes their text.
-fn transcribe_groups<R: Threads + Sync, S: Source, K: Sink>(
+/// Has all bytes of the reader taken, and writes the text that is made of them.
+fn transcribe_by<'t, R: Threads + Sync, S: Source, K: Sink, T: Taker<'t>>(
     rt: &R,
     alloc: Global,
     reader: &mut S,
     writer: &mut K,
-    hex: bool,
+    taker: T,
 ) -> Result<(), RdsError>
     requires reads { S.failed reader.old < 2 ^ 63 }
     requires writes { K.failed writer.old < 2 ^ 63 }
-    ensures { (job : Job) → task_of job ≡ Ok (task.Encode hex)
+    requires empty { T.taken taker ≡ [] }
+    ensures { (job : Job) (task : Task) → task_of job ≡ Ok task → ((bytes : List ℕ) → T.text taker bytes ≡ text_of_task task bytes)
         → IsTranscribed S.Source K.Sink job reader.old reader.new writer.old writer.new result }
 {
-    let mut lines = GroupLines::new(alloc);
-    read_all(rt, alloc, reader, &mut lines)?;
-    let groups = lines.finish()?;
-    Text::Groups(groups, hex).write_to(rt, alloc, writer)
-}
-
-/// Counts the totals while the bytes come, of which only those are kept that the workers count next.
-fn transcribe_totals<R: Threads + Sync, S: Source, K: Sink>(
-    rt: &R,
-    alloc: Global,
-    reader: &mut S,
-    writer: &mut K,
-    input: &Input,
-    plan: &Plan<'_>,
-) -> Result<(), RdsError>
-    requires reads { S.failed reader.old < 2 ^ 63 }
-    requires writes { K.failed writer.old < 2 ^ 63 }
-    requires gaps { AreGaps (2 ^ 36) input.now.gaps }
-    requires whole { cuts_any plan.now.cuts ≡ true }
-    ensures { (job : Job) → task_of job ≡ Ok (task.Totals input.now plan.now)
-        → IsTranscribed S.Source K.Sink job reader.old reader.new writer.old writer.new result }
-{
-    let mut counter = InputCounter::new(alloc, input, plan.rules(), plan.workers())?;
-    read_all(rt, alloc, reader, &mut counter)?;
-    let totals = counter.finish(rt, alloc)?;
-    let rows = totals_rows(alloc, &totals)?;
-    Text::Whole(rows).write_to(rt, alloc, writer)
-}
-
-/// Decodes symbols while they come, and holds the items that are listed.
-fn transcribe_symbols<R: Threads + Sync, S: Source, K: Sink>(
-    rt: &R,
-    alloc: Global,
-    reader: &mut S,
-    writer: &mut K,
-    input: &Input,
-    plan: &Plan<'_>,
-    margin: Margin,
-    has_rows: bool,
-) -> Result<(), RdsError>
-    requires reads { S.failed reader.old < 2 ^ 63 }
-    requires writes { K.failed writer.old < 2 ^ 63 }
-    requires gaps { AreGaps (2 ^ 36) input.now.gaps }
-    ensures { (job : Job) → task_of job ≡ Ok (task.Soft input.now plan.now margin has_rows)
-        → IsTranscribed S.Source K.Sink job reader.old reader.new writer.old writer.new result }
-{
-    let mut symbols = HeldSymbols::new(alloc, input, plan, margin, has_rows)?;
-    read_all(rt, alloc, reader, &mut symbols)?;
-    let text = symbols.finish(alloc)?;
+    let mut taker = taker;
+    read_all(rt, alloc, reader, &mut taker)?;
+    let text = taker.finish(rt, alloc)?;
     text.write_to(rt, alloc, writer)
 }
 
@@ -200,7 +153,7 @@ fn transcribe_held<R: Threads + Sync, S: Source, K: Sink, G: Gate + Sync>(
 
 /// Has all bytes of the reader taken, to its end.
 #[tactic(auto, using(crate::proofs::Reading::read_steps))]
-fn read_all<R: Threads + Sync, S: Source, T: Taker>(
+fn read_all<'t, R: Threads + Sync, S: Source, T: Taker<'t>>(
     rt: &R,
     alloc: Global,
     reader: &mut S,
@@ -208,7 +161,7 @@ fn read_all<R: Threads + Sync, S: Source, T: Taker>(
 ) -> Result<(), RdsError>
     requires failed { S.failed reader.old < 2 ^ 63 }
     requires empty { T.taken taker.old ≡ [] }
-    ensures terms { OnOk result (T.terms taker.new ≡ T.terms taker.old) }
+    ensures text { OnOk result (T.text taker.new ≡ T.text taker.old) }
     ensures ok { OnOk result (IfSome (S.remaining reader.old) (λ held. T.taken taker.new ≡ held)) }
     ensures end { OnOk result (IsAtEnd (S.remaining reader.new)) }
     ensures given { OnOk result (S.given reader.new ≡ S.given reader.old ++ T.taken taker.new) }
@@ -232,7 +185,7 @@ fn read_all<R: Threads + Sync, S: Source, T: Taker>(
 }
 
 /// One read, whose bytes are taken. Answers whether the reader was at its end.
-fn read_some<R: Threads + Sync, S: Source, T: Taker>(
+fn read_some<'t, R: Threads + Sync, S: Source, T: Taker<'t>>(
     rt: &R,
     alloc: Global,
     reader: &mut S,
@@ -241,7 +194,7 @@ fn read_some<R: Threads + Sync, S: Source, T: Taker>(
 ) -> Result<bool, RdsError>
     requires count { S.failed reader.old < 2 ^ 63 }
     requires room { 0 < length buf.old }
-    ensures terms { OnOk result (T.terms taker.new ≡ T.terms taker.old) }
+    ensures text { OnOk result (T.text taker.new ≡ T.text taker.old) }
     ensures taken { OnOk result ((more : List ℕ)
         × Consumes (S.remaining reader.old) (S.remaining reader.new) more
         × (T.taken taker.new ≡ T.taken taker.old ++ more)) }

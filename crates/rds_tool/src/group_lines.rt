@@ -4,6 +4,7 @@ ghost use Rattle.rds_tool.specs.{GroupText.encoded_text, GroupText.line_text, Gr
 ghost use Rattle.rds_code.specs.{Refusals.IsMemoryOrErrOf, declared.error.RdsError.TheVariants.GroupText};
 
 use crate::taker::Taker;
+use crate::task::Text;
 use rds_code::RdsError;
 use rds_stream::Trace;
 use std::alloc::{AllocError, Global};
@@ -141,10 +142,30 @@ fn word(high: u8, low: u8) -> u16
     256 * u16::from(high) + u16::from(low)
 }
 
-impl Taker for GroupLines {
-    ghost taken = { λ lines. lines };
+/// Lines whose groups are encoded, with `hex` as lines of digits.
+#[derive(Drop)]
+pub struct HeldLines {
+    lines: GroupLines,
+    hex: bool,
+}
 
-    ghost terms = { λ lines. None };
+impl HeldLines {
+    /// No text yet.
+    pub fn new(alloc: Global, hex: bool) -> HeldLines
+        ensures lines { result.lines ≡ [] }
+        ensures hex { result.hex ≡ hex }
+    {
+        HeldLines {
+            lines: GroupLines::new(alloc),
+            hex,
+        }
+    }
+}
+
+impl<'t> Taker<'t> for HeldLines {
+    ghost taken = { λ held. held.lines };
+
+    ghost text = { λ held. encoded_text held.hex };
 
     fn take<R: Threads + Sync>(
         &mut self,
@@ -154,6 +175,12 @@ impl Taker for GroupLines {
     ) -> Result<(), AllocError> {
         let _ = rt;
         let _ = alloc;
-        self.push(bytes)
+        self.lines.push(bytes)
+    }
+
+    fn finish<R: Threads + Sync>(self, rt: &R, alloc: Global) -> Result<Text<'t>, RdsError> {
+        let _ = rt;
+        let _ = alloc;
+        Ok(Text::Groups(self.lines.finish()?, self.hex))
     }
 }

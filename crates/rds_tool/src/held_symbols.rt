@@ -84,23 +84,6 @@ impl<'a> HeldSymbols<'a> {
             symbols: Trace::new(),
         })
     }
-
-    /// The text of the symbols, all of which have come.
-    pub fn finish<'t>(self, alloc: Global) -> Result<Text<'t>, RdsError>
-        ensures ok { IfOk result (λ text. text_of_held self.entry ≡ Ok (bytes_of text)) }
-        ensures refused { IfErr result (IsMemoryOrErrOf (text_of_held self.entry)) }
-    {
-        check_symbols(self.bits, self.count)?;
-        if !self.stream.may_end() {
-            return Err(RdsError::BadGaps);
-        }
-        let end = self.stream.finish(alloc)?;
-        if self.has_rows {
-            Ok(Text::Soft(whole_list(self.items, &end)?, end.totals))
-        } else {
-            Ok(Text::Whole(soft_totals_rows(alloc, &end.totals)?))
-        }
-    }
 }
 
 /// Refuses bits that are too many, or more than there are between this number of symbols.
@@ -151,10 +134,10 @@ fn soft_totals_rows(alloc: Global, totals: &SoftTotals) -> Result<Vec<u8>, Alloc
     Ok(text)
 }
 
-impl Taker for HeldSymbols<'_> {
+impl<'t> Taker<'t> for HeldSymbols<'_> {
     ghost taken = { λ held. held.symbols };
 
-    ghost terms = { λ held. Some held.terms };
+    ghost text = { λ held. text_of_held held.terms };
 
     fn take<R: Threads + Sync>(
         &mut self,
@@ -175,5 +158,19 @@ impl Taker for HeldSymbols<'_> {
         let listed = self.items.append(&items);
         self.has_rows = listed.is_ok();
         listed
+    }
+
+    fn finish<R: Threads + Sync>(self, rt: &R, alloc: Global) -> Result<Text<'t>, RdsError> {
+        let _ = rt;
+        check_symbols(self.bits, self.count)?;
+        if !self.stream.may_end() {
+            return Err(RdsError::BadGaps);
+        }
+        let end = self.stream.finish(alloc)?;
+        if self.has_rows {
+            Ok(Text::Soft(whole_list(self.items, &end)?, end.totals))
+        } else {
+            Ok(Text::Whole(soft_totals_rows(alloc, &end.totals)?))
+        }
     }
 }

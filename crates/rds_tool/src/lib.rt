@@ -76,7 +76,6 @@ mod input; // From bytes to a recording.
 mod taker; // Where the bytes of a reader go.
 mod counting; // Totals that are counted as the bytes come.
 mod one_pass; // A list by one worker, written while it is decoded.
-mod lister; // The listing of its items.
 mod held_symbols; // Symbols that are decoded as they come.
 mod text; // The text that a task writes.
 mod listing_rows; // The rows of a report, from any on.

@@ -66,23 +66,19 @@ impl<'a> Task<'a> {
         ensures refused { IfErr result (IsMemoryOrErrOf (text_of_task self.entry held.items)) }
     {
         match self {
-            Task::Scan(input, workers) => {
-                let recording = recording_of(input, held)?;
-                Ok(Text::Windows(recording, workers))
-            }
+            Task::Scan(input, workers) => Ok(Text::Windows(recording_of(input, held)?, workers)),
             Task::List(input, plan) => list_of(rt, alloc, input, plan, held, gate),
             Task::Totals(input, plan) => {
                 let totals = totals_of(rt, alloc, input, &plan, held, gate)?;
-                let rows = totals_rows(alloc, &totals)?;
-                Ok(Text::Whole(rows))
+                Ok(Text::Whole(totals_rows(alloc, &totals)?))
             }
             Task::Encode { hex } => {
-                let mut reader = GroupLines::new(alloc);
-                reader.push(held.as_slice())?;
-                Ok(Text::Groups(reader.finish()?, hex))
+                let mut lines = GroupLines::new(alloc);
+                lines.push(held.as_slice())?;
+                Ok(Text::Groups(lines.finish()?, hex))
             }
-            Task::Soft(input, plan, margin, rows) => {
-                soft_text_of(rt, alloc, &input, &plan, margin, rows, held)
+            Task::Soft(input, plan, margin, has_rows) => {
+                soft_text_of(rt, alloc, &input, &plan, margin, has_rows, held)
             }
         }
     }
@@ -165,5 +161,5 @@ fn soft_text_of<'a, R: Threads + Sync>(
     let mut bytes = held;
     let mut symbols = HeldSymbols::new(alloc, input, plan, margin, has_rows)?;
     symbols.take(rt, alloc, bytes.as_mut_slice())?;
-    symbols.finish(alloc)
+    symbols.finish(rt, alloc)
 }

@@ -2,10 +2,9 @@
 ghost use Rattle.std.specs.Prelude.{◌<◌, ◌≤◌, ◌^◌, ◌≡◌, ◌≢◌, ◌↔◌, ◌⊎◌, IfErr, IsErrOf, IsOkUnless, Ok, OnErr, OnOk, true};
 ghost use Rattle.std.specs.Io.KnownBytes.{Appends, Keeps};
 ghost use Rattle.rds_rows.specs.Written.{IsWritten};
-ghost use Rattle.rds_tool.specs.{Inside.Texts.bytes_of, Outcome.WritesPrefix, Outcome.list_text};
+ghost use Rattle.rds_tool.specs.{Inside.Texts.bytes_of, Outcome.WritesPrefix};
 
 use crate::encode::GroupRows;
-use crate::lister::HardLister;
 use crate::listing::Heard;
 use crate::listing_rows::ListingRows;
 use crate::one_pass::write_in_one_pass;
@@ -81,7 +80,9 @@ fn write_bytes<R: Threads + Sync, K: Sink>(
             let workers = makers(listing.plan.workers(), &listing.recording);
             write_rows(rt, alloc, &rows, workers, PART, writer)
         }
-        Text::OnePass(recording, plan) => write_decoded(rt, alloc, recording, plan, writer),
+        Text::OnePass(recording, plan) => {
+            write_in_one_pass(alloc, recording, plan.rules(), writer)
+        }
         Text::Windows(recording, workers) => {
             let rows = WindowRows { recording };
             let workers = makers(workers.count(), recording);
@@ -99,23 +100,6 @@ fn write_bytes<R: Threads + Sync, K: Sink>(
             write_rows(rt, alloc, &rows, 1, ALONE, writer)
         }
     }
-}
-
-/// Writes the listing of a recording while it is decoded. Not in line: each text would begin with the room of all.
-#[inline(never)]
-fn write_decoded<R: Threads + Sync, K: Sink>(
-    rt: &R,
-    alloc: Global,
-    recording: &Recording,
-    plan: &Plan<'_>,
-    writer: &mut K,
-) -> Result<(), RowsError>
-    requires { K.failed writer.old < 2 ^ 63 }
-    ensures { IsWritten K.contents K.failed (list_text plan.now.rules recording.now)
-        writer.old writer.new result }
-{
-    let mut lister = HardLister::new();
-    write_in_one_pass(rt, alloc, recording, plan.rules(), &mut lister, writer)
 }
 
 /// Writes a text that is made.

@@ -1,8 +1,9 @@
 -- What a counter of a recording knows while its bytes come. Cited by `Counter` and `InputCounter`, and by no public call.
-use Rattle.std.specs.Prelude.{◌*◌, ◌-◌, ◌/◌, ◌<◌, ◌^◌, ◌≡◌, ℕ, Bool, List, None, IfSome, Option, Some, false, length, min, slice_index, take, true}
+use Rattle.std.specs.Prelude.{◌*◌, ◌-◌, ◌/◌, ◌<◌, ◌^◌, ◌≡◌, ℕ, Bool, List, None, IfSome, Ok, Option, Result, Some, false, length, min, slice_index, take, true}
 use Rattle.rds_live.specs.StreamDecoder.{HasHeard, LiveOf, Terms}
 use Rattle.rds_sync.specs.Rules.{RuleNumbers}
-use Rattle.rds_tool.specs.{Inside.HexText.IsDecodedBy, Inside.HexText.IsStrangeAfter, InputOf.InputOf}
+use Rattle.rds_code.specs.declared.error.RdsError.{RdsError}
+use Rattle.rds_tool.specs.{Input.and_then, Input.recording_of, Inside.HexText.IsDecodedBy, Inside.HexText.IsStrangeAfter, InputOf.InputOf, Outcome.totals_list}
 
 -- how many whole bytes the bits have that are counted: those that are claimed, and no more than a recording may have
 abbrev pub whole : Option ℕ → ℕ
@@ -37,3 +38,7 @@ abbrev pub IsTextOf : Bool → Option ℕ → Bool → List ℕ → List ℕ →
 IsTextOf false half strange text bytes = (bytes ≡ text) × (half ≡ None) × (strange ≡ false)
 IsTextOf true half true text bytes = IsStrangeAfter None text
 IsTextOf true half false text bytes = IfSome half (λ digit. digit < 16) × IsDecodedBy None text bytes half
+
+-- the rows of the totals of the recording of this text, or the refusal
+abbrev pub text_of_counted : InputOf → RuleNumbers → List ℕ → Result (List ℕ) RdsError
+text_of_counted input rules text = and_then (recording_of input text) (λ recording. Ok (totals_list rules recording))

@@ -3,16 +3,24 @@ use Rattle.std.specs.Prelude.{◌+◌, ◌-◌, ◌^◌, ◌≡◌, Bool, List, 
 use Rattle.rds_code.specs.declared.error.RdsError.{RdsError}
 use Rattle.rds_soft.specs.SoftStream.{SoftHeard, complete}
 use Rattle.rds_soft.specs.declared.soft_item.SoftItem.{SoftItem}
-use Rattle.rds_tool.specs.{Input.and_then, Inside.Takers.TakerTerms, Soft.recording_of_symbols, Soft.soft_text}
+use Rattle.rds_sync.specs.Rules.{RuleNumbers}
+use Rattle.rds_tool.specs.{Input.and_then, InputOf.InputOf, Soft.recording_of_symbols, Soft.soft_text}
 
 -- how many symbols count: one more than the bits that are claimed, and no more than a recording may have
 abbrev pub most_heard : Option ℕ → ℕ
 most_heard None = 2 ^ 36 + 1
 most_heard (Some bits) = min bits (2 ^ 36) + 1
 
+-- the input that the symbols are, the rules, the margin, and whether rows are listed
+pub record HeldTerms : Type 0 where
+  pub input : InputOf
+  pub rules : RuleNumbers
+  pub margin : ℕ
+  pub has_rows : Bool
+
 -- the terms, and the symbols that came
 pub record HeldOf : Type 0 where
-  pub terms : TakerTerms
+  pub terms : HeldTerms
   pub symbols : List ℕ
 
 -- the stream has heard the symbols that count, and the items that these complete are listed, if rows are
@@ -22,7 +30,7 @@ pub record IsHeld (stream : SoftHeard) (bits : Option ℕ) (has_rows : Bool) (it
   pub listed : has_rows ≡ true → items ≡ complete stream.terms stream.symbols
 
 -- the text of these symbols, or their refusal
-abbrev pub text_of_held : HeldOf → Result (List ℕ) RdsError
-text_of_held held =
-    and_then (recording_of_symbols held.terms.input held.symbols)
-    (λ recording. Ok (soft_text held.terms.has_rows held.terms.rules held.terms.margin held.symbols recording))
+abbrev pub text_of_held : HeldTerms → List ℕ → Result (List ℕ) RdsError
+text_of_held terms symbols =
+    and_then (recording_of_symbols terms.input symbols)
+    (λ recording. Ok (soft_text terms.has_rows terms.rules terms.margin symbols recording))

@@ -1,4 +1,4 @@
-use Rattle.rds_tool.proofs.Names.{arith, ◌∙◌}
+use Rattle.rds_tool.proofs.Names.{arith, rules, ◌∙◌, ap, length, refl}
 use Rattle.rds_tool.proofs.{Passing.passed, Passing.passes, Reading.end_told, Reading.kind_told, Reading.ok_told, Reading.turns_not_told}
 use Rattle.rds_tool.proofs.engine.read_all.Goals as goal
 
@@ -22,3 +22,15 @@ returns-then-is_at_end-clause-read g c = ok_told _ _ _ (c.in_ok-is_at_end.ensure
 
 pub returns-clause-read : goal.returns-clause-read
 returns-clause-read g c = end_told _ _ c.turns.invariant.count
+
+pub read_some-requires-sync-R : goal.read_some-requires-sync-R
+read_some-requires-sync-R g c = λ κs w. (
+  search rules,
+  (
+    (refl, tt),
+    (
+      omega (arith, c.turns.invariant.count, c.requires.failed),
+      omega (arith, ap (λ xs. length xs) c.as_mut_slice.ensures.value, c.turns.invariant.room),
+    ),
+  ),
+)

@@ -1,7 +1,8 @@
-use Rattle.rds_tool.proofs.Names.{◌≡◌, ◌++◌, ◌⊎◌, ◌^◌, ◌∙◌, common_steps, arith, Err, List, Ok, Result, ap, subst, sym, ℕ, IfErr, IfOk-weaker, AreGaps, and_then, recording_of_symbols, soft_text, IsMemoryOrErrOf, RdsError, SoftTerms, BadGaps, OutOfMemory}
+use Rattle.rds_tool.proofs.Names.{◌≡◌, ◌++◌, ◌⊎◌, ◌^◌, ◌∙◌, common_steps, arith, Err, List, Ok, Result, ap, subst, sym, ℕ, IfErr, IfErr-weaker, IfOk-weaker, AreGaps, and_then, recording_of_symbols, soft_text, IsMemoryOrErrOf, RdsError, SoftTerms, BadGaps, OutOfMemory}
 use mathlib.Core.Path.{ap₂}
-use Rattle.rds_tool.proofs.{HeldSymbols.never-gaps, HeldSymbols.same_terms, Passing.passed}
-use Rattle.rds_tool.specs.{Inside.HeldSymbols.HeldOf, Inside.Takers.TakerTerms, InputOf.InputOf}
+use Rattle.rds_tool.proofs.{HeldSymbols.never-gaps, Passing.passed}
+use Rattle.rds_tool.specs.{Inside.HeldSymbols.HeldOf, Inside.HeldSymbols.HeldTerms, Inside.HeldSymbols.text_of_held, InputOf.InputOf}
+use Rattle.rds_tool.proofs.making.soft_text_of.{Given.Over, Goals.After-finish}
 use Rattle.rds_tool.proofs.making.soft_text_of.Goals as goal
 
 told : (text : Result (List ℕ) RdsError) (e : RdsError) → (e ≡ BadGaps) ⊎ (e ≡ OutOfMemory) → (e ≡ BadGaps → text ≡ Err BadGaps) → IsMemoryOrErrOf text e
@@ -22,10 +23,22 @@ returns-in_err-symbols-clause-refused g c =
     (never-gaps terms i.bits c.args.has_rows held c.len.result (omega (arith, c.len.ensures, c.args.held.small)) ok.0 ok.1
     (λ are. refused.bad_gaps (ap (λ e. Err e) is) (subst (λ (input : InputOf). AreGaps (2 ^ 36) input.gaps) c.input.view_is are)))))
 
+module _ (g : Over) (c : After-finish g) where
+  abbrev text : HeldTerms → List ℕ → Result (List ℕ) RdsError
+  text = text_of_held
+
+  -- all bytes were taken, by the terms
+  text_is : text c.take.new.self.terms c.take.new.self.symbols
+      ≡ and_then (recording_of_symbols c.args.input.now c.args.held.items) (λ recording. Ok (soft_text c.args.has_rows c.args.plan.now.rules c.args.margin c.args.held.items recording))
+  text_is =
+      let new = c.in_ok-symbols.ensures.new in
+      let symbols = c.in_ok-take.ensures.taken ∙ ap₂ (λ (xs ys : List ℕ). xs ++ ys) (ap (λ (h : HeldOf). h.symbols) new) c.as_mut_slice.ensures.value in
+      ap₂ (λ (made : List ℕ → Result (List ℕ) RdsError) (xs : List ℕ). made xs) (c.in_ok-take.ensures.text ∙ ap (λ (h : HeldOf). text h.terms) new) symbols
+
 pub returns-clause-ok : goal.returns-clause-ok
 returns-clause-ok g c =
-    let new = c.in_ok-symbols.ensures.new in
-    let terms = same_terms _ _ c.in_ok-take.ensures.terms ∙ ap (λ (h : HeldOf). h.terms) new in
-    let symbols = c.in_ok-take.ensures.taken ∙ ap₂ (λ (xs ys : List ℕ). xs ++ ys) (ap (λ (h : HeldOf). h.symbols) new) c.as_mut_slice.ensures.value in
-    let same = ap₂ (λ (t : TakerTerms) (xs : List ℕ). and_then (recording_of_symbols t.input xs) (λ recording. Ok (soft_text t.has_rows t.rules t.margin xs recording))) terms symbols in
-    IfOk-weaker c.finish.result _ _ (λ text said. sym same ∙ said) c.finish.ensures.ok
+    IfOk-weaker c.finish.result _ _ (λ made said. sym (text_is g (goal.at.returns-clause-ok g c).After-finish) ∙ said) c.finish.ensures.ok
+
+pub returns-clause-refused : goal.returns-clause-refused
+returns-clause-refused g c =
+    IfErr-weaker c.finish.result _ _ (λ e said. subst (λ r. IsMemoryOrErrOf r e) (text_is g (goal.at.returns-clause-refused g c).After-finish) said) c.finish.ensures.refused

@@ -1,4 +1,4 @@
-use Rattle.rds_tool.proofs.Names.{◌++◌, ◌∙◌, ap, concat, flat_map, flat_map-append, sym, item_row, named_flips, named_totals, soft_row, total_row}
+use Rattle.rds_tool.proofs.Names.{◌++◌, ◌∙◌, ap, concat, flat_map, flat_map-append, sym, item_row, list_text, named_flips, named_totals, soft_row, total_row}
 use Rattle.rds_tool.{specs.Inside.GroupLines.text_of_groups, specs.Inside.Rows.named_soft_totals, specs.Inside.Texts.bytes_of, proofs.Encoding.as_rows, proofs.ScanRows.scan_spelled, proofs.Spelled.all_spelled, proofs.Texts.same_text}
 use Rattle.rds_tool.proofs.text.write_bytes.Goals as goal
 
@@ -9,7 +9,7 @@ returns-in_ok-rows-in-Listing g c =
     (ap concat c.in_ok-rows-in-Listing.ensures.rows ∙ all_spelled item_row total_row report.items.list (named_totals report.totals) ∙ sym (ap bytes_of c.in-Listing.is))
 
 pub returns-in-OnePass : goal.returns-in-OnePass
-returns-in-OnePass g c = same_text _ c.write_decoded.ensures (sym (ap bytes_of c.in-OnePass.is))
+returns-in-OnePass g c = same_text _ c.write_in_one_pass.ensures (ap (λ rules. list_text rules c.in-OnePass.recording) c.rules-in-OnePass.ensures ∙ sym (ap bytes_of c.in-OnePass.is))
 
 pub returns-in-Windows : goal.returns-in-Windows
 returns-in-Windows g c = same_text _ c.write_rows-in-Windows.ensures (scan_spelled c.in-Windows.recording ∙ sym (ap bytes_of c.in-Windows.is))

@@ -1,4 +1,5 @@
-use Rattle.rds_tool.proofs.Names.{◌≡◌, ◌++◌, Bool, List, ap, false, subst, sym, take, true, ℕ, CounterOf, IsTextOf}
+use Rattle.rds_tool.proofs.Names.{◌≡◌, ◌++◌, ◌∙◌, Bool, List, ap, false, subst, sym, take, true, ℕ, CounterOf, InputCounterOf, IsTextOf}
+use Rattle.rds_tool.specs.Inside.Counters.{text_of_counted}
 use Rattle.rds_tool.proofs.HexDigits.{decoded_on}
 use Rattle.rds_tool.proofs.counting.InputCounterTaker.take.Goals as goal
 
@@ -17,3 +18,22 @@ invariant_of-self-in-Ok g c =
     (subst (λ (strange : Bool). IsTextOf true half strange c.note.new.self.bytes c.hear-in-Ok.new.self.bytes) (sym c.if-self.false)
     (subst (λ (xs : List ℕ). IsTextOf true half false xs c.hear-in-Ok.new.self.bytes) (sym c.note.ensures)
     (subst (λ (xs : List ℕ). IsTextOf true half false (s.text.bytes ++ part) xs) (sym heard) is)))
+
+-- the text does not depend on the bytes that were counted
+same : (hex : Bool) (k k' : CounterOf) (bytes : List ℕ) → k' ≡ record k { bytes = bytes }
+    → text_of_counted (record { hex = hex; bits = k'.bits; gaps = k'.terms.gaps }) k'.terms.rules ≡ text_of_counted (record { hex = hex; bits = k.bits; gaps = k.terms.gaps }) k.terms.rules
+same hex k k' bytes is = ap (λ (c : CounterOf). text_of_counted (record { hex = hex; bits = c.bits; gaps = c.terms.gaps }) c.terms.rules) is
+
+pub returns-in-Ok-clause-text : goal.returns-in-Ok-clause-text
+returns-in-Ok-clause-text g c =
+    same c.self.inside.hex c.self.inside.counter _ _ c.hear-in-Ok.ensures ∙ ap (λ (k : InputCounterOf). text_of_counted k.input k.rules) c.self.view_is
+
+pub returns-then-not-self-clause-text : goal.returns-then-not-self-clause-text
+returns-then-not-self-clause-text g c =
+    same c.self.inside.hex c.self.inside.counter _ _ c.hear.ensures ∙ ap (λ (k : InputCounterOf). text_of_counted k.input k.rules) c.self.view_is
+
+pub returns-then-self-clause-text : goal.returns-then-self-clause-text
+returns-then-self-clause-text g c = ap (λ (k : InputCounterOf). text_of_counted k.input k.rules) c.self.view_is
+
+pub returns-in-Err-clause-text : goal.returns-in-Err-clause-text
+returns-in-Err-clause-text g c = ap (λ (k : InputCounterOf). text_of_counted k.input k.rules) c.self.view_is

@@ -1,6 +1,6 @@
 use Rattle.rds_tool.proofs.Names.{common_steps, arith, ◌≡◌, ◌∙◌, Bool, List, Ok, Result, ap, inr, subst, sym, ℕ, IfErr, IfOk, IfErr-weaker, IfOk-weaker, Signal, report_items, totals_of, and_then, claimed, first_bits, recording_of, CounterOf, InputCounterOf, IsTextOf, IsMemoryOrErrOf, RdsError, HexText}
-use Rattle.rds_tool.proofs.{CountedBytes.decoded_whole, CountedBytes.refused_half, CountedBytes.refused_strange, counting.InputCounter.finish.Given.Over, counting.InputCounter.finish.Goals.After-finish, counting.InputCounter.finish.Goals.then-self-via-then-self, counting.InputCounter.finish.Goals.then-self-via-else-self+then-is_some}
-use Rattle.rds_tool.proofs.counting.InputCounter.finish.Goals as goal
+use Rattle.rds_tool.proofs.{CountedBytes.decoded_whole, CountedBytes.refused_half, CountedBytes.refused_strange, counting.InputCounter.totals.Given.Over, counting.InputCounter.totals.Goals.After-finish, counting.InputCounter.totals.Goals.then-self-via-then-self, counting.InputCounter.totals.Goals.then-self-via-else-self+then-is_some}
+use Rattle.rds_tool.proofs.counting.InputCounter.totals.Goals as goal
 
 pub returns-then-self-clause-refused : goal.returns-then-self-clause-refused
 returns-then-self-clause-refused g c =
