@@ -88,7 +88,7 @@ fn by_value<R: Threads + Sync, T: Rows + Sync, W: OwnedSink + Drop>(
     write_by_seats::<R, Brand, T, W>(rt, alloc, rows, most, parts, seats, others, out)
 }
 
-/// The rows, made by the caller and as many others, and written with so many seats.
+/// The rows, made by the caller and as many others, and written with this number of seats.
 fn write_by_seats<
     R: Threads + Sync,
     J: PartSpec + Send + Sync,
