@@ -47,6 +47,7 @@ class Function:
     body: str
     clauses: list
     is_in_cycle: bool  # of calls: such functions are proved together, in a folder of the cycle's name
+    is_of_trait: bool  # a trait's function, which the `impl` of a type has
 
     def proof(self, folder):
         """The folder of its proof below the crates in `folder`."""
@@ -140,7 +141,10 @@ def functions_of(folder):
             path = ".".join(filter(None, [home.get(kind, module if module != root else None), owner, it[2]]))
             is_public = is_open and bool({module, kind or it[2]} & exported)
             file, place, is_in_cycle = f"{crate}/src/{module}.rt", (it.start(), end), "#[cycle(" in it[0]
-            yield Function(crate, file, path, is_public, place, text[at:end], clauses, is_in_cycle)
+            is_of_trait = owner != kind
+            yield Function(
+                crate, file, path, is_public, place, text[at:end], clauses, is_in_cycle, is_of_trait
+            )
 
 
 def copied(folder, crates, with_holes=(*LIBRARIES, EXPORTED)):

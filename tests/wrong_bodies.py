@@ -1,5 +1,5 @@
 #!/usr/bin/env python3
-"""Tries the wrong bodies in crates/*/wrong/, one run per crate, and fails unless the prover refuses each.
+"""Tries the wrong bodies in crates/*/wrong/, one run per crate or a few, and fails unless the prover refuses each.
 
     tests/wrong_bodies.py [--right] [--beside LOG] [CRATE..]
     tests/wrong_bodies.py --cut [CRATE..]
@@ -264,10 +264,28 @@ def is_as_wanted(body, told, are_right):
     return not body.is_refused(told) if body.is_equal else body.is_refused(told)
 
 
+def runs_of(crate):
+    """The files of the wrong bodies, by run. A trait's function has no twin: a second edit of it is tried in a second run."""
+    functions, runs = list(functions_of(f"{CRATES}/{crate}")), []
+    for file in sorted(it for it in os.listdir(f"{CRATES}/{crate}/wrong") if it.endswith(".edit")):
+        alone = {f.path for f in wrong_body(crate, file, functions).functions if f.is_of_trait}
+        files, taken = next((run for run in runs if not alone & run[1]), ([], set()))
+        if not files:
+            runs.append((files, taken))
+        files.append(file)
+        taken |= alone
+    return [files for files, _ in runs]
+
+
 def try_all(room, crate, where, told, are_right):
-    """Tries the wrong bodies of a crate, or the right ones, in one run over the libraries at `where`."""
+    """Tries the wrong bodies of a crate, or the right ones, over the libraries at `where`."""
+    return [body for files in runs_of(crate) for body in try_some(room, crate, files, where, told, are_right)]
+
+
+def try_some(room, crate, files, where, told, are_right):
+    """Tries these in one run."""
+    shutil.rmtree(f"{room}/{crate}", ignore_errors=True)
     functions = copied(room, [crate], [crate])
-    files = sorted(it for it in os.listdir(f"{CRATES}/{crate}/wrong") if it.endswith(".edit"))
     bodies = [wrong_body(crate, it, functions) for it in files]
     for body in bodies if are_right else []:
         body.edits = [(path, at, old, old) for path, at, old, _ in body.edits]
