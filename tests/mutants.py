@@ -359,6 +359,8 @@ def tried(trials: list[Trial], jobs: int) -> Iterator[tuple[Trial, str]]:
         found = [*pool.map(in_a_copy, trials)]
         names = [name for name in dict.fromkeys(found) if name not in ("", "no end")]
         failed = failing(copies.queue[0], names, [], "99") if names else []
+        # Each is tried once more, alone: beside other work a test may fail for another reason.
+        failed = [name for name in failed if name in names and failing(copies.queue[0], [name], [])]
         for trial, name in zip(trials, found):
             yield trial, in_a_copy(trial, failed) if name in failed else name
 
