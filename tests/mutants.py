@@ -322,21 +322,32 @@ class Trial(NamedTuple):
         """The first test of a copy that fails, or ""."""
         (top / self.path).write_text(self.edited)
         found = failing(top, self.tests, passed_over)
-        (top / self.path).write_text(self.unedited)
+        self.restore(top)
         return "".join(found[:1])
 
-    def seen_alone(self, top: Path, failed: list[str]) -> str:
-        """The first test that fails for the edit alone, or "", where these fail without it."""
-        passed_over = [*failed]
+    def seen_alone(self, top: Path) -> str:
+        """The first test that fails for the edit alone, or ""."""
+        passed_over: list[str] = []
         while name := self.seen_by(top, passed_over):
-            if name == "no end" or not failing(top, [name], []):
+            if name == "no end" or not self.is_failing_without(top, name):
                 break
             passed_over.append(name)
         return name
 
+    def is_failing_without(self, top: Path, name: str) -> bool:
+        """Whether a test fails for the form alone in which the file is written."""
+        (top / self.path).write_text(self.unedited)
+        found = failing(top, [name], [])
+        self.restore(top)
+        return bool(found)
+
+    def restore(self, top: Path) -> None:
+        (top / self.path).write_text((TOP / self.path).read_text())
+
 
 def tried(trials: list[Trial], jobs: int) -> Iterator[tuple[Trial, str]]:
-    """Each trial with the test that sees it, or "": at first all, then the tests that failed, without an edit."""
+    """Each trial with the test that sees it, or "". The tests that failed are tried without an edit, all at once; each edit of one that fails
+    then, too, is tried alone."""
     # In memory an edit takes a third of the time.
     room = os.environ.get("TMPDIR") or ("/dev/shm" if os.access("/dev/shm", os.W_OK) else None)
     with tempfile.TemporaryDirectory(dir=room) as folder, ThreadPoolExecutor(jobs) as pool:
@@ -348,9 +359,9 @@ def tried(trials: list[Trial], jobs: int) -> Iterator[tuple[Trial, str]]:
             copy_to(copy)
             compiled(copy)
 
-        def in_a_copy(trial: Trial, passed_over: list[str] | None = None) -> str:
+        def in_a_copy(trial: Trial, is_alone: bool = False) -> str:
             copy, before = copies.get(), spent()
-            name = trial.seen_by(copy, []) if passed_over is None else trial.seen_alone(copy, passed_over)
+            name = trial.seen_alone(copy) if is_alone else trial.seen_by(copy, [])
             copies.put(copy)
             shown = f"{trial.path}\t{name or 'not seen'}\t{spent() - before:.1f} s"
             print(shown, file=sys.stderr, flush=True)
@@ -358,11 +369,13 @@ def tried(trials: list[Trial], jobs: int) -> Iterator[tuple[Trial, str]]:
 
         found = [*pool.map(in_a_copy, trials)]
         names = [name for name in dict.fromkeys(found) if name not in ("", "no end")]
+        for trial in trials:
+            (copies.queue[0] / trial.path).write_text(trial.unedited)
         failed = failing(copies.queue[0], names, [], "99") if names else []
-        # Each is tried once more, alone: beside other work a test may fail for another reason.
-        failed = [name for name in failed if name in names and failing(copies.queue[0], [name], [])]
+        for trial in trials:
+            trial.restore(copies.queue[0])
         for trial, name in zip(trials, found):
-            yield trial, in_a_copy(trial, failed) if name in failed else name
+            yield trial, in_a_copy(trial, True) if name in failed else name
 
 
 def spent() -> float:
