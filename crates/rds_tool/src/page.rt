@@ -8,7 +8,7 @@ use std::io::Write;
 use std::marker::Model;
 
 /// How many bytes a page has.
-const PAGE: usize = 4096;
+const PAGE: usize = 8192;
 
 /// How many bytes the longest row has: eight fields of at most 20 bytes, each with one byte after it.
 pub const LONGEST_ROW: usize = 168;
@@ -16,10 +16,10 @@ pub const LONGEST_ROW: usize = 168;
 /// One more than the greatest number of eight digits.
 const EIGHT_DIGITS: u64 = 100_000_000;
 
-/// Rows on the stack, up to 4096 bytes of them. Clauses see the bytes written so far.
+/// Rows on the stack, up to 8192 bytes of them. Clauses see the bytes written so far.
 #[derive(Drop)]
 pub struct Page {
-    bytes: [u8; 4096],
+    bytes: [u8; 8192],
     len: usize,
 }
 
@@ -30,7 +30,7 @@ impl Model for Page {
 
     ghost view = { λ page. take page.len page.bytes };
 
-    ghost invariant = { λ page. (page.len ≤ 4096) × (length page.bytes ≡ 4096) };
+    ghost invariant = { λ page. (page.len ≤ 8192) × (length page.bytes ≡ 8192) };
 }
 
 impl Page {
@@ -39,7 +39,7 @@ impl Page {
         ensures { result ≡ [] }
     {
         Page {
-            bytes: [0; 4096],
+            bytes: [0; 8192],
             len: 0,
         }
     }
@@ -47,7 +47,7 @@ impl Page {
     /// The bytes written so far.
     pub fn as_bytes(&self) -> &[u8]
         ensures value { result.now ≡ self.now }
-        ensures short { length result.now ≤ 4096 }
+        ensures short { length result.now ≤ 8192 }
     {
         &self.bytes[..self.len]
     }
@@ -55,7 +55,7 @@ impl Page {
     /// For how many bytes there is room.
     #[inline(always)]
     pub fn room(&self) -> usize
-        ensures { result + length self.now ≡ 4096 }
+        ensures { result + length self.now ≡ 8192 }
     {
         PAGE - self.len
     }
@@ -71,7 +71,7 @@ impl Page {
     /// eight times as long.
     #[inline(always)]
     pub fn put(&mut self, bytes: [u8; 8], len: usize)
-        requires room { length self.old + 8 ≤ 4096 }
+        requires room { length self.old + 8 ≤ 8192 }
         requires few { len ≤ 8 }
         ensures { self.new ≡ self.old ++ take len bytes }
     {
@@ -83,7 +83,7 @@ impl Page {
     /// Appends one byte.
     #[inline(always)]
     pub fn put_byte(&mut self, byte: u8)
-        requires { length self.old < 4096 }
+        requires { length self.old < 8192 }
         ensures { self.new ≡ self.old ++ byte ∷ [] }
     {
         self.bytes[self.len] = byte;
@@ -92,7 +92,7 @@ impl Page {
 
     /// Appends any bytes.
     pub fn put_all(&mut self, bytes: &[u8])
-        requires { length self.old + length bytes.now ≤ 4096 }
+        requires { length self.old + length bytes.now ≤ 8192 }
         ensures { self.new ≡ self.old ++ bytes.now }
     {
         let to = self.len + bytes.len();
@@ -103,7 +103,7 @@ impl Page {
     /// Appends a row of two to eight short fields, joined by commas.
     #[tactic(auto, using(crate::proofs::Spelled::field_steps))]
     pub fn put_row(&mut self, fields: &[&[u8]])
-        requires room { length self.old + 168 ≤ 4096 }
+        requires room { length self.old + 168 ≤ 8192 }
         requires several { 2 ≤ length fields.now }
         requires few { length fields.now ≤ 8 }
         requires short { AllByRecursion IsShort (map (λ field. field.now) fields.now) }
@@ -122,7 +122,7 @@ impl Page {
     /// Appends a number in decimal.
     #[inline(always)]
     pub fn put_number(&mut self, n: u64)
-        requires { length self.old + 24 ≤ 4096 }
+        requires { length self.old + 24 ≤ 8192 }
         ensures value { self.new ≡ self.old ++ decimal n }
         ensures short { length self.new ≤ length self.old + 24 }
     {
@@ -135,7 +135,7 @@ impl Page {
 
     /// The same of at most sixteen digits.
     fn put_front(&mut self, n: u64)
-        requires room { length self.old + 16 ≤ 4096 }
+        requires room { length self.old + 16 ≤ 8192 }
         requires short { n < 10000000000000000 }
         ensures value { self.new ≡ self.old ++ decimal n }
         ensures short { length self.new ≤ length self.old + 16 }
@@ -150,7 +150,7 @@ impl Page {
     /// The same of at most eight digits.
     #[inline(always)]
     fn put_short(&mut self, n: u64)
-        requires room { length self.old + 8 ≤ 4096 }
+        requires room { length self.old + 8 ≤ 8192 }
         requires short { n < 100000000 }
         ensures value { self.new ≡ self.old ++ decimal n }
         ensures short { length self.new ≤ length self.old + 8 }

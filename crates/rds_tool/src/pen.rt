@@ -18,7 +18,7 @@ impl Page {
     /// Appends the row of a group, which is the record that `csv` writes of its fields.
     #[inline(always)]
     pub fn push_group(&mut self, group: &Group)
-        requires { length self.old + 168 ≤ 4096 }
+        requires { length self.old + 168 ≤ 8192 }
         ensures text { self.new ≡ self.old ++ item_row (AnItem.Group group.now) }
         ensures record { self.new ≡ self.old
             ++ row_text default_writer (item_fields (AnItem.Group group.now)) }
@@ -38,7 +38,7 @@ impl Page {
 
     /// Appends the row of a group that was read again.
     pub fn push_soft_group(&mut self, group: &SoftGroup)
-        requires { length self.old + 168 ≤ 4096 }
+        requires { length self.old + 168 ≤ 8192 }
         ensures text { self.new ≡ self.old ++ soft_row (ASoftItem.Group group.now) }
         ensures short { length self.new ≤ length self.old + 168 }
     {
@@ -58,7 +58,7 @@ impl Page {
     /// Appends the row of a group of four valid blocks.
     #[inline(always)]
     pub fn push_valid_group(&mut self, group: &ValidGroup)
-        requires { length self.old + 168 ≤ 4096 }
+        requires { length self.old + 168 ≤ 8192 }
         ensures text { self.new ≡ self.old ++ soft_row (ASoftItem.Group (valid_group group.now)) }
         ensures short { length self.new ≤ length self.old + 168 }
     {
@@ -78,7 +78,7 @@ impl Page {
     /// Appends the row of a valid window.
     #[inline(always)]
     pub fn push_window(&mut self, place: u64, offset: Offset)
-        requires { length self.old + 168 ≤ 4096 }
+        requires { length self.old + 168 ≤ 8192 }
         ensures text { self.new ≡ self.old ++ window_row (place, offset) }
         ensures short { length self.new ≤ length self.old + 32 }
     {
@@ -90,7 +90,7 @@ impl Page {
     /// Appends a comma and the name of an offset.
     #[inline(always)]
     fn put_name(&mut self, offset: Offset)
-        requires { length self.old + 8 ≤ 4096 }
+        requires { length self.old + 8 ≤ 8192 }
         ensures text { self.new ≡ self.old ++ 44 ∷ name offset }
         ensures short { length self.new ≤ length self.old + 3 }
     {
@@ -107,7 +107,7 @@ impl Page {
     #[inline(always)]
     #[tactic(auto, using(crate::proofs::RowText::field_steps))]
     fn put_kind(&mut self, kind: Option<u8>)
-        requires { length self.old + 8 ≤ 4096 }
+        requires { length self.old + 8 ≤ 8192 }
         ensures text { self.new ≡ self.old ++ 44 ∷ kind_text kind }
         ensures plain { IsPlain (kind_text kind) }
         ensures short { length self.new ≤ length self.old + 4 }
@@ -132,7 +132,7 @@ impl Page {
     /// Appends a comma and a group's version.
     #[inline(always)]
     fn put_version(&mut self, version: Version, conflict: bool)
-        requires { length self.old + 8 ≤ 4096 }
+        requires { length self.old + 8 ≤ 8192 }
         ensures text { self.new ≡ self.old ++ 44 ∷ version_text version conflict }
         ensures short { length self.new ≤ length self.old + 3 }
     {
@@ -148,7 +148,7 @@ impl Page {
     /// Appends a comma and the field of a block.
     #[inline(always)]
     fn put_block(&mut self, block: &Block)
-        requires { length self.old + 16 ≤ 4096 }
+        requires { length self.old + 16 ≤ 8192 }
         ensures text { self.new ≡ self.old ++ 44 ∷ block_text block.now }
         ensures short { length self.new ≤ length self.old + 16 }
     {
@@ -171,7 +171,7 @@ impl Page {
 
     /// Appends a comma and the field of a block that was read again.
     fn put_soft_block(&mut self, block: &SoftBlock)
-        requires { length self.old + 16 ≤ 4096 }
+        requires { length self.old + 16 ≤ 8192 }
         ensures text { self.new ≡ self.old ++ 44 ∷ soft_block_text block.now }
         ensures short { length self.new ≤ length self.old + 16 }
     {
@@ -195,7 +195,7 @@ impl Page {
     /// Appends a tilde and an error mask.
     #[inline(always)]
     fn put_mask(&mut self, mask: u32)
-        requires { length self.old + 8 ≤ 4096 }
+        requires { length self.old + 8 ≤ 8192 }
         ensures text { self.new ≡ self.old ++ 126 ∷ hex_digits 7 mask }
         ensures short { length self.new ≤ length self.old + 8 }
     {
@@ -206,7 +206,7 @@ impl Page {
     /// Appends a comma, an offset and an information word.
     #[inline(always)]
     fn put_word(&mut self, offset: Offset, info: u16)
-        requires { length self.old + 8 ≤ 4096 }
+        requires { length self.old + 8 ≤ 8192 }
         ensures text { self.new ≡ self.old ++ 44 ∷ word_text offset info }
         ensures short { length self.new ≤ length self.old + 8 }
     {

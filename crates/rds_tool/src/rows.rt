@@ -107,7 +107,7 @@ impl RowWriter {
     /// Appends the row of an item of a list.
     #[inline(always)]
     fn push_listed(&mut self, item: &Listed)
-        requires { length self.old + 168 ≤ 4096 }
+        requires { length self.old + 168 ≤ 8192 }
         ensures text { self.new ≡ self.old ++ soft_row (item_of item.now) }
         ensures short { length self.new ≤ length self.old + 168 }
     {
@@ -124,7 +124,7 @@ impl RowWriter {
     /// Appends the row of an item.
     #[inline(always)]
     fn push_item(&mut self, item: &Item)
-        requires { length self.old + 168 ≤ 4096 }
+        requires { length self.old + 168 ≤ 8192 }
         ensures text { self.new ≡ self.old ++ item_row item.now }
         ensures short { length self.new ≤ length self.old + 168 }
     {
@@ -137,7 +137,7 @@ impl RowWriter {
 
     #[tactic(auto, using(crate::proofs::RowText::field_steps))]
     fn push_acquired(&mut self, place: u64, number: u8)
-        requires { length self.old + 168 ≤ 4096 }
+        requires { length self.old + 168 ≤ 8192 }
         ensures text { self.new ≡ self.old ++ item_row (AnItem.Acquired place number) }
         ensures short { length self.new ≤ length self.old + 168 }
     {
@@ -151,7 +151,7 @@ impl RowWriter {
 
     #[tactic(auto, using(crate::proofs::RowText::field_steps))]
     fn push_loss(&mut self, place: u64)
-        requires { length self.old + 168 ≤ 4096 }
+        requires { length self.old + 168 ≤ 8192 }
         ensures text { self.new ≡ self.old ++ item_row (AnItem.LostLock place) }
         ensures short { length self.new ≤ length self.old + 168 }
     {
@@ -163,7 +163,7 @@ impl RowWriter {
 
     #[tactic(auto, using(crate::proofs::RowText::field_steps))]
     fn push_total(&mut self, name: &str, value: u64)
-        requires room { length self.old + 168 ≤ 4096 }
+        requires room { length self.old + 168 ≤ 8192 }
         requires plain { IsPlain name.now }
         requires short { IsShort name.now }
         ensures text { self.new ≡ self.old ++ total_row (name.now, value) }
@@ -186,7 +186,7 @@ impl RowWriter {
 
     /// Appends a row of two to eight short fields that need no quotes. If `csv` answers an error, it is joined without it.
     fn push_row(&mut self, fields: &[&[u8]])
-        requires room { length self.old + 168 ≤ 4096 }
+        requires room { length self.old + 168 ≤ 8192 }
         requires several { 2 ≤ length fields.now }
         requires few { length fields.now ≤ 8 }
         requires plain { AllByRecursion IsPlain (map (λ field. field.now) fields.now) }
@@ -232,7 +232,7 @@ fn blank_csv() -> Writer<Page>
 /// Appends the record that `csv` writes of these fields.
 fn put_record(page: &mut Page, csv: &mut Writer<Page>, fields: &[&[u8]]) -> Result<(), Error>
     requires between { IsBetween csv.old }
-    requires room { length page.old + 168 ≤ 4096 }
+    requires room { length page.old + 168 ≤ 8192 }
     requires several { 2 ≤ length fields.now }
     requires few { length fields.now ≤ 8 }
     requires plain { AllByRecursion IsPlain (map (λ field. field.now) fields.now) }
