@@ -9,8 +9,6 @@ use rds_code::{
 };
 use std::alloc::Global;
 
-// ---- remainders
-
 /// The ten bits that differ from a block by a multiple of the generator are its remainder: no others do. Each block has some. Division
 /// bit by bit, and the standard's syndrome times x^16, give the same. Of the polynomials with its period, only the generator and its
 /// mirror tell all bursts apart.
@@ -49,8 +47,6 @@ pub(crate) fn damaged(sent: u32, damage: u32) -> u32
     sent ^ damage
 }
 
-// ---- offsets, numbers and limits
-
 /// An offset is known by its word, and counted from 1 to 4. C' is printed as `Cx`.
 pub fn known_by_word(offset: Offset) -> (Option<Offset>, usize, &'static str)
     ensures offset { result.0 ≡ Some offset }
@@ -74,8 +70,6 @@ pub fn number_and_limit() -> Option<(u8, u8)>
         _ => None,
     }
 }
-
-// ---- bursts
 
 /// A burst leaves a remainder, by which it is told from all others, and is in the list of bursts. Its span, ones and outcome are indices
 /// of tables of 5, 5 and 11.
@@ -109,8 +103,6 @@ pub fn found_again(table: &BurstTable, burst: Burst, limit: BurstLimit, asked: u
     let limit = BurstLimit::new(u32::from(burst.span()))?;
     table.find(rem26(burst.pattern()), limit)
 }
-
-// ---- blocks
 
 /// A block that is sent is valid, by outcomes for any limit, and no other window is that block. After a block 2 with its version bit set,
 /// only C' is wanted for block 3.

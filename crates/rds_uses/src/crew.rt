@@ -34,8 +34,6 @@ pub fn decoded_by_any<R: Threads + Sync>(
     decode_crew(rt, alloc, &work, workers, &OpenGate)
 }
 
-// ---- dealers
-
 /// A dealer with one seat, which has drawn nothing. One without seats is refused. For 256 nothing but memory can be.
 pub fn with_one_seat(
     alloc: Global,

@@ -8,8 +8,6 @@ use rds_sync::{Decoder, Group, Item, ItemIter, Items, Rules, State, Totals, laws
 use std::alloc::{AllocError, Global};
 use std::snapshot::Snapshot;
 
-// ---- items of a recording
-
 /// The first item, by going over them, any item by its index, once all are collected, and the last.
 pub fn collected_at(
     alloc: Global,
@@ -33,8 +31,6 @@ pub fn collected_at(
     };
     Ok((first, collected.get(k).copied(), last))
 }
-
-// ---- lists that are made
 
 /// The list of a recording by rules, as long as it has no item.
 pub fn none_yet(alloc: Global, recording: &Recording, rules: &Rules) -> Items
@@ -102,8 +98,6 @@ pub fn closed_or_same(items: &mut Items, state: State) -> bool
     items.close(state).is_ok()
 }
 
-// ---- items by parts
-
 /// The items of a run, and those of a list, if there is room for one more in their parts, which keep their room. The run ends as it would
 /// have.
 pub fn run_in_a_part(
@@ -124,8 +118,6 @@ pub fn run_in_a_part(
     let is_list = other.len() < other.capacity();
     (is_run, decoder.end_state(), is_list)
 }
-
-// ---- totals
 
 /// The totals of one item, and of the group that the end closes, if there is one.
 pub fn totals_of_item(item: &Item, group: Option<Group>) -> [Totals; 2]

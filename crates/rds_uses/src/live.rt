@@ -90,8 +90,6 @@ pub fn take_rest(
     }
 }
 
-// ---- decoders made of lawful numbers, even of those that no stream has
-
 /// Bytes in two chunks give the same as at once, whatever numbers the decoder is made of.
 pub fn in_two_chunks(
     alloc: Global,
@@ -136,8 +134,6 @@ pub fn ended_inside(
 {
     live.finish_with(last, bits, items)
 }
-
-// ---- counters, which several workers share
 
 /// The totals of a stream that comes in two chunks are its report's, by any number of workers.
 pub fn counted_in_two<R: Threads + Sync>(

@@ -13,8 +13,6 @@ use std::alloc::{AllocError, Global};
 use std::slice;
 use std::snapshot::Snapshot;
 
-// ---- cuttings
-
 /// Places that are a cutting of `len` bits are taken as they are. Others come back, with the refusal.
 pub fn cutting_of(places: Vec<u64>, len: u64) -> Result<Cutting, (RdsError, Vec<u64>)>
     ensures taken { IsCutting len places.items → result ≡ Ok places.items }
@@ -54,8 +52,6 @@ pub fn bits_beyond_pieces(recording: &Recording, cutting: &Cutting) -> u64
     recording.len() - cutting.pieces()
 }
 
-// ---- guesses
-
 /// A guess has the items, the end and the marks of the run from Searching over its range. Its list names its recording and rules, and its
 /// totals are those of its items.
 pub fn guessed_as_run<'a>(
@@ -79,8 +75,6 @@ pub fn guessed_as_run<'a>(
     let items = run.items(recording, rules);
     Ok((items, marks, run.list(), run.totals()))
 }
-
-// ---- seams
 
 /// A seam is the run from the state handed in, and tells where it first meets the guess. It reads as many windows as the bits to there
 /// cost. On sound signal they meet within 416 bits, by a loss of ten blocks.
@@ -116,8 +110,6 @@ pub fn run_and_cost_of_seam<T: Tape>(
     Ok(seam)
 }
 
-// ---- joins
-
 /// Two neighbours joined are the guess of both ranges, at the cost of their seam.
 pub fn cost_of_join<T: Tape>(
     alloc: Global,
@@ -134,8 +126,6 @@ pub fn cost_of_join<T: Tape>(
 {
     join_runs(alloc, tape, rules, left, right)
 }
-
-// ---- reports
 
 /// The report of a recording in the pieces of a cutting.
 pub fn stitch_pieces(
@@ -189,8 +179,6 @@ pub fn cost_of_report<T: Tape>(
 {
     stitch(alloc, tape, rules, runs)
 }
-
-// ---- works
 
 /// The report of a work that is cut into two pieces, by its join of their guesses: that of the recording and the rules that it names, and
 /// the recording and the rule of loss, as a caller sees them.

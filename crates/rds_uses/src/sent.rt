@@ -19,8 +19,6 @@ use rds_tool::{FromRead, Job, ToWrite, follow, laws as tool_laws};
 use std::alloc::{AllocError, Global};
 use std::thread::Threads;
 
-// ---- a block, damaged
-
 /// The offset of a block that was damaged: not one of its own number after one or two bit errors, and not its own if they span up to ten
 /// bits.
 pub fn offset_of_damaged(info: u16, offset: Offset, damage: u32) -> Option<Offset>
@@ -31,8 +29,6 @@ pub fn offset_of_damaged(info: u16, offset: Offset, damage: u32) -> Option<Offse
     code_laws::damage_is_detected();
     offset_of(rem26(damaged(encode_block(info, offset), damage)))
 }
-
-// ---- noise, and miscorrection
 
 /// A window that is corrected to a block 1 has one of some remainders. How many, of 1,024, is the same for each offset. One word of 26 bits
 /// has an information word and a remainder, so each remainder is that of one word in 1,024.
@@ -72,8 +68,6 @@ pub fn miscorrected_of_two(info: u16, offset: Offset, wanted: Wanted, limit: Bur
     counts[limit.bits() as usize]
 }
 
-// ---- a group, damaged
-
 /// A group with at most one burst within the limit in each block is read as it was sent, anywhere in a recording.
 pub fn words_of_damaged(
     recording: &Recording,
@@ -95,8 +89,6 @@ pub fn words_of_damaged(
     let [one, two, three, four] = group.blocks;
     [one.info(), two.info(), three.info(), four.info()]
 }
-
-// ---- a recording of groups
 
 /// The 13 bytes of a group, the first bit highest.
 fn pack_group(words: [u16; 4]) -> [u8; 13]
@@ -164,8 +156,6 @@ pub fn offset_of_last_block(recording: &Recording, place: u64) -> Option<Offset>
     recording.offset(place)
 }
 
-// ---- a recording of groups, damaged
-
 /// Groups that were sent with bit errors are decoded as they were sent. The totals follow from the errors. So do those of groups without
 /// any that are heard from the first bit of a recording to its last, whoever encoded them.
 pub fn damaged_and_decoded(
@@ -223,8 +213,6 @@ pub fn decoded_in_lock(
     run(alloc, recording, rules, state, from, to)
 }
 
-// ---- a longer recording
-
 /// A longer recording has all items of the one that it begins with, except the group at its end. No total is less.
 pub fn decoded_before_and_after(
     alloc: Global,
@@ -254,8 +242,6 @@ pub fn begins_with_first_bits(recording: &Recording, bits: u64)
 {
     laws::longer_recordings_add_rows();
 }
-
-// ---- by the program
 
 /// Lines of words, encoded by one job and listed by another: the listing of their groups, for all rules, cuttings and workers.
 pub fn encoded_and_listed<R: Threads + Sync>(

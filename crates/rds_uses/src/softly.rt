@@ -16,8 +16,6 @@ use rds_sync::{Item, Rules};
 use std::alloc::{AllocError, Global};
 use std::thread::Threads;
 
-// ---- the nearest block
-
 /// The margins are the numbers 1 to 127.
 pub fn margin_of(weight: u8) -> u8
     requires least { 1 ≤ weight }
@@ -77,8 +75,6 @@ pub fn nothing_is_flipped(
     search.nearest(w, confidences, number, wanted, margin)
 }
 
-// ---- readings
-
 /// Two searches read symbols alike, and those whose window is valid as it is. The reading is the one that is computed. The information word
 /// of a corrected block is known.
 pub fn read_alike(
@@ -102,8 +98,6 @@ pub fn read_alike(
     let second = other.read(symbols, number, wanted, margin);
     (first, second, SoftBlock::Read(first).info())
 }
-
-// ---- reports read again
 
 /// The windows of a recording of symbols' bits are those of 27 symbols. A block that it reads is read again as its symbols are, also if its
 /// bits make it valid.
@@ -145,8 +139,6 @@ pub fn again_as_computed(
     search.read_again(recording, symbols, margin, item)
 }
 
-// ---- packed bits and totals
-
 /// The first packed bit is that between the first two symbols.
 pub fn first_packed_bit(alloc: Global, symbols: &[u8]) -> Result<u8, AllocError>
     requires { 1 < length symbols.now }
@@ -163,8 +155,6 @@ pub fn totals_of_two(one: &SoftItem, other: &SoftItem) -> SoftTotals
     laws::soft_totals_join();
     SoftTotals::of_item(one).plus(SoftTotals::of_item(other))
 }
-
-// ---- a stream
 
 /// Items of two reads, one after the other, are those that both complete. What comes later changes none of them. More symbols than a stream
 /// may have are not heard.

@@ -11,8 +11,6 @@ use rds_stream::{
 use std::alloc::Global;
 use std::snapshot::Snapshot;
 
-// ---- recordings
-
 /// The first `bits` bits of the bytes. Too many for a recording, and then too many for the bytes, are refused. The bytes come back.
 pub fn recording_from(bytes: Vec<u8>, bits: u64) -> Result<Recording, (RdsError, Vec<u8>)>
     ensures taken { bits ≤ 2 ^ 36 → bits ≤ 8 * vec_len bytes → result ≡ Ok (ungapped (bits_of bytes.items bits)) }
@@ -36,8 +34,6 @@ pub fn heard_in_a_row(reader: &mut Reader<'_>, place: u64) -> bool
         && reader.window(place + 26) == two
         && reader.window(place) == one
 }
-
-// ---- many places
 
 /// All valid windows of a recording, by rising place. Only memory can be refused.
 pub fn all_valid(alloc: Global, recording: &Recording) -> Result<Vec<(u64, Offset)>, RdsError>
@@ -79,8 +75,6 @@ pub fn last_of_planes(recording: &Recording, at: u64) -> ([u64; 10], u16, bool)
     (planes(recording, at), remainder, recording.bit(last))
 }
 
-// ---- tapes
-
 /// The offset of a tape's last place, twice its length, and its recording. At most one window is counted.
 #[tactic(auto, using(std::proofs::lemmas::Grind::common_steps, rds_stream::proofs::WindowLists::off_late))]
 pub fn last_offset<T: Tape>(tape: &mut T) -> (Option<Offset>, u64, Snapshot<Recording>)
@@ -96,8 +90,6 @@ pub fn last_offset<T: Tape>(tape: &mut T) -> (Option<Offset>, u64, Snapshot<Reco
     (offset_heard(tape.window(len - 1)), 2 * len, tape.source())
 }
 
-// ---- which gaps are taken
-
 /// The answer if gaps are refused: why, the bytes and the gaps.
 type Refused = (RdsError, Vec<u8>, Vec<(u64, u64)>);
 
@@ -111,8 +103,6 @@ pub fn with_gaps(bytes: Vec<u8>, bits: u64, gaps: Vec<(u64, u64)>) -> Result<Rec
 {
     Recording::with_gaps(bytes, bits, gaps)
 }
-
-// ---- reading where a gap is touched, and where none is
 
 /// The block of a window that touches a gap is lost, whatever its bits are, and has no offset. Any other window is heard as it is stored. A
 /// window is counted either way.

@@ -14,8 +14,6 @@ use rds_sync::{
 use std::alloc::Global;
 use std::snapshot::Snapshot;
 
-// ---- rules
-
 /// Rules are made again of the numbers that they were made of, together and one after the other. Each fits in a byte, and only memory can be
 /// refused.
 pub fn rules_in_bytes(alloc: Global, rules: &Rules) -> Result<Rules, RdsError>
@@ -48,8 +46,6 @@ pub fn refused_in_order(alloc: Global, reach: u32, loss: u32, of: u32) -> [Optio
     ]
 }
 
-// ---- blocks and groups
-
 /// Whether a group that was read from its block 1 to its block 4, which ends at `place`, has four information words.
 pub fn has_four_words(recording: &Recording, rules: &Rules, place: u64, group: &Group) -> bool
     requires place { 103 ≤ place }
@@ -60,8 +56,6 @@ pub fn has_four_words(recording: &Recording, rules: &Rules, place: u64, group: &
     laws::groups_are_read();
     group.is_complete()
 }
-
-// ---- states
 
 /// A run from a tested state ends in one that needs no test, and gives two items per bit at most. Only memory can be refused.
 pub fn tested_run(
@@ -101,8 +95,6 @@ pub fn lawful_after_bit(recording: &Recording, rules: &Rules, state: State, plac
     Decoder::new(recording, rules, state, place, place + 1).end_state()
 }
 
-// ---- steps over a tape
-
 /// A step is the run over its bits. A search goes bit by bit, and reads its own window and one for each block of its reach at most. It goes
 /// on, and gives nothing, at a place whose window touches a gap.
 pub fn one_step<T: Tape>(tape: &mut T, rules: &Rules, state: State, place: u64, to: u64) -> Step
@@ -133,8 +125,6 @@ pub fn cost_of_end<T: Tape>(tape: &mut T, rules: &Rules, state: State) -> Option
 {
     finish(tape, rules, state)
 }
-
-// ---- runs over a range
 
 /// A stretch is the run over its bits, and goes at least as far as a step. Its reader can go on. A hop of a tally that ends where it does
 /// ends in its state.
@@ -264,8 +254,6 @@ pub fn report_of_run(
 {
     run_report(alloc, recording, rules, state, from, to, Spans::Whole)
 }
-
-// ---- rules of loss
 
 /// A lock is lost if the mask that is kept of its last blocks has too many ones. Its lowest bit tells whether the newest block was bad.
 pub fn lost_by_mask(bad: u32, of: u32, mask: u64) -> bool

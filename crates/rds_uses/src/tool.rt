@@ -102,8 +102,6 @@ pub fn append_listing<R: Threads + Sync>(
     (done, writer.into_inner())
 }
 
-// ---- at any devices, standard input and output too
-
 /// From standard input to standard output: all that was given, to its end, makes all that was taken and flushed.
 pub fn input_to_output<R: Threads + Sync>(
     rt: &HostRuntime,
@@ -175,8 +173,6 @@ pub fn symbols_heard_live<R: Threads + Sync, S: Source, K: Sink>(
 {
     follow_soft(rt, alloc, reader, writer, rules, margin, bits, &[], workers)
 }
-
-// ---- rows of lists
 
 /// A list is well-formed, begins with the rows that following any beginning of its bytes writes, and ends with their totals. Two receptions
 /// that differ only in gaps have one list.
