@@ -75,6 +75,11 @@ NO_GOAL = """
 pub no-such-goal : goal.no-such-goal
 no-such-goal c = tt
 """
+# A value of any type, for the answers by hand that are left open.
+ANY = """
+any : {A : Type 2} → A
+any = ?
+"""
 
 
 @dataclass(eq=False)
@@ -191,6 +196,17 @@ def put_proof(folder, f, twin):
         write(path, said + NO_GOAL)
 
 
+def leave_answers_open(folder, f):
+    """Leaves the answers by hand of a function open, so that the check reads no lemma for them."""
+    path = f"{f.proof(folder)}/Answers.antt"
+    goals = re.findall(r"^pub (\S+) : goal\.", read(path), re.M) if os.path.isfile(path) else []
+    said = [f"\npub {goal} : goal.{goal}\n{goal} = any\n" for goal in goals if goal not in NO_GOAL]
+    if said:
+        write(
+            path, f"use Rattle.{f.crate}.proofs.{f.path}.Goals as goal\n{ANY}{''.join(said)}{NO_GOAL}"
+        )
+
+
 def put_loops(folder, crate, edited):
     """Replaces the body of each other function that has a hole by one that calls nothing: a check also covers callees."""
     functions = [
@@ -217,8 +233,8 @@ def drop_main(folder, crate):
         shutil.rmtree(f.proof(folder))
 
 
-def prepare(folder, crate, bodies):
-    """Puts the wrong bodies into the copy, and the right proofs of their functions."""
+def prepare(folder, crate, bodies, told):
+    """Puts the wrong bodies into the copy, and the right proofs of their functions. Lines of answers can only refuse an edit in the table."""
     count = {}
     for body in bodies:
         if any(f in count for f in body.functions):
@@ -228,6 +244,8 @@ def prepare(folder, crate, bodies):
             count |= dict.fromkeys(body.functions, 1)
             for f in body.functions:
                 put_proof(folder, f, f)
+        for f in body.functions if body.name.removesuffix(".edit") not in told else []:
+            leave_answers_open(folder, f)
     edits = [it for body in bodies for it in body.edits]
     for path in {it[0] for it in edits}:
         write(f"{folder}/{path}", edited(read(f"{CRATES}/{path}"), [it for it in edits if it[0] == path]))
@@ -289,7 +307,7 @@ def try_some(room, crate, files, where, told, are_right):
     bodies = [wrong_body(crate, it, functions) for it in files]
     for body in bodies if are_right else []:
         body.edits = [(path, at, old, old) for path, at, old, _ in body.edits]
-    prepare(room, crate, bodies)
+    prepare(room, crate, bodies, told)
     ran = subprocess.run(
         words(room, crate, {f.path.replace(".", "::") for it in bodies for f in it.functions}, where),
         cwd=f"{room}/{crate}",

@@ -11,8 +11,10 @@ from html.parser import HTMLParser
 from pathlib import Path
 from typing import Any, Dict, List, Tuple
 
+import pytest
 from rds_monitor.db.parts import EventRow, MinuteRow, Told
 from rds_monitor.measures.errors import Interval
+from rds_monitor.page import stored
 from rds_monitor.watch.alarms import NAMES
 from rds_monitor.watch.metrics import METRICS, metrics_text
 from rds_monitor.db.standing import Availability, standing_of
@@ -204,6 +206,33 @@ def test_how_much_of_the_past_a_page_has(tmp_path: Path) -> None:
     assert [len(changes) for _, changes in found] == [9, 18, 27, 36, 36, 40]
     assert (found[4][1][0], found[4][1][-1]) == ("4 8", "1 0") and found[5][1][0] == "5 19"
     records.close()
+
+
+def test_a_busy_item_goes_on_in_the_next_line(tmp_path: Path, monkeypatch: pytest.MonkeyPatch) -> None:
+    """Of an item that changes too often each interval has one text; then it is the one that the last minute tells. RT is not busy."""
+    monkeypatch.setattr(stored, "MOST_LISTED", 2)
+    records = Records(str(tmp_path / "watch.db"))
+    for part, texts in enumerate([("ONE", "TWO"), (None, None)]):
+        key, first = PartKey("Alpha 1", part), part * 60 * 71250
+        minutes = [
+            MinuteRow(
+                n, Interval(n * 71250, (n + 1) * 71250, 2740, 2740, 0, 0, 0), {"0A": 5}, {"ps": text}, None, 0
+            )
+            for n, text in enumerate(30 * texts, part * 60)
+        ]
+        changes = [EventRow(71250 * n, 0, "ps", text) for n, text in enumerate(("ONE", None, "ONE", None))]
+        changes += [EventRow(71250 * 30, 0, "rt", "NOW")]
+        told = Told(minutes, [EventRow(71250 * 90, 0, "rt", None)] if part else changes, [], [], [])
+        opened = PartOpened(key, "Alpha", Timing(UTC - 7200), first, f"{part}.csv")
+        records.write([opened, PartTold(key, told), PartGrew(key, first + 60 * 71250, 0, True)])
+    records.close()
+    (alpha,) = stored.Stored(str(tmp_path / "watch.db")).stations()
+    first, second = (alpha.line(UTC - 7200 + at, UTC - 3600 + at, 3600).lanes for at in (0, 3600))
+    assert first == {
+        "PS": [(UTC - 7200, UTC - 3600, "several texts")],
+        "RT": [(UTC - 5400, UTC - 3600, "NOW")],
+    }
+    assert second == {"PS": [(UTC - 3600, UTC, "TWO")], "RT": [(UTC - 3600, UTC - 1800, "NOW")]}
 
 
 def test_each_record_counts_once(tmp_path: Path) -> None:

@@ -165,7 +165,7 @@ class Receiver:
         parts = [self._of_mpx(self._fm.finish())] if self._fm else []
         parts.append(self._of_parts(self._jumps.push(self._bands.finish()[0])))
         parts.append(self._of_parts(self._jumps.finish()))
-        parts.append(self._of_symbols([chain.finish() for chain in self._chains], 0))
+        parts.append(self._of_symbols([chain.finish() for chain in self._chains]))
         parts += [self._soft.finish()] if self._soft else []
         return numpy.concatenate(parts)
 
@@ -178,7 +178,7 @@ class Receiver:
         found = []
         for number, part in enumerate(parts):
             if number:
-                found.append(self._of_symbols([chain.finish() for chain in self._chains], 0))
+                found.append(self._of_symbols([chain.finish() for chain in self._chains]))
                 self._end = self._begin + self._chains[0].end
                 self._begin, self._size, self._sign = self._begin + self._size, 0, 1
                 self._chains = [SymbolChain(self._rate) for _ in self._chains]
@@ -186,12 +186,12 @@ class Receiver:
             found.append(self._of_symbols([chain.push(row) for chain, row in zip(self._chains, part)], HELD))
         return numpy.concatenate(found)
 
-    def _of_symbols(self, found: List[Symbols], least: int) -> Bits:
+    def _of_symbols(self, found: List[Symbols], least: int = 1) -> Bits:
         """After a jump the first symbols wait until there are `least`, which tell how many were lost."""
         self.quality.add(found[0], found[-1])
         self._held = numpy.append(self._held, self._sign * found[0].symbols)
         if self._end is not None:
-            if self._held.size < max(1, least):
+            if self._held.size < least:
                 return numpy.zeros(0, "u1")
             missing = self._missing(self._end)
             self._sign = self._sign_after(missing)
