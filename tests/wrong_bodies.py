@@ -14,9 +14,9 @@ A wrong body is refused
   no answer by hand;
 - otherwise by a line of those answers that the prover refuses, unless the line only names something that the edit removed. Answers
   follow the form of a body, so an edit that keeps the meaning can be refused like this, too. So this counts only if
-  tests/wrong_bodies.answers states the false claim of the edit, in a line 'CRATE/EDIT: CLAIM'.
+  tests/wrong_bodies.answers states the false claim of the edit, in a line 'CRATE/EDIT: CLAIM'. All other answers are left open.
 
-An edit with a line `equal: WHY` keeps the meaning: lines may refuse it, goals may not.
+An edit with a line `equal: WHY` keeps the meaning: goals may not refuse it.
 
 --right tries the right bodies in the same way, and none may be refused. --cut checks each crate as the edits of must-fail/ cut it,
 without their errors: it must be proved. With --beside, `rt ci` runs meanwhile and its output goes to LOG, ended by the line
@@ -88,19 +88,15 @@ class WrongBody:
     edits: list  # (file, place, old, new)
     functions: list
     is_equal: bool  # it keeps the meaning
+    is_told: bool  # the table tells what is false of it
     goals: Sequence = ()  # the goals that refuse it
     lines: Sequence = ()
 
-    def is_refused(self, told):
-        """Whether that is a refusal, if the table has these edits."""
-        return bool(self.goals) or bool(self.lines) and self.name.removesuffix(".edit") in told
+    def is_refused(self):
+        return bool(self.goals or self.is_told and self.lines)
 
-    def report(self, told):
-        if self.goals or self.is_refused(told):
-            return "refused: " + ", ".join(self.goals or self.lines)
-        if self.lines:
-            return f"NOT REFUSED, but for {', '.join(self.lines)}: {TOLD} does not tell what is false of it"
-        return "NOT REFUSED"
+    def report(self):
+        return f"refused: {', '.join(self.goals or self.lines)}" if self.is_refused() else "NOT REFUSED"
 
 
 def told_of():
@@ -124,11 +120,12 @@ def told_of():
     return told
 
 
-def wrong_body(crate, file, functions):
+def wrong_body(crate, file, functions, told=()):
     """Reads an edit, and finds the functions that it makes wrong."""
     lines = [it.partition(": ")[::2] for it in read(f"{CRATES}/{crate}/wrong/{file}").splitlines()]
     outside = [f for f in functions if ("fails", f.path.replace(".", "::")) in lines]
-    body = WrongBody(f"{crate}/{file}", [], outside, any(key == "equal" for key, _ in lines))
+    name, is_equal = f"{crate}/{file}", any(key == "equal" for key, _ in lines)
+    body = WrongBody(name, [], outside, is_equal, name.removesuffix(".edit") in told)
     path, old = "", ""
     for key, said in lines:
         path = f"{crate}/{said}" if key == "file" else path
@@ -199,12 +196,10 @@ def put_proof(folder, f, twin):
 def leave_answers_open(folder, f):
     """Leaves the answers by hand of a function open, so that the check reads no lemma for them."""
     path = f"{f.proof(folder)}/Answers.antt"
-    goals = re.findall(r"^pub (\S+) : goal\.", read(path), re.M) if os.path.isfile(path) else []
-    said = [f"\npub {goal} : goal.{goal}\n{goal} = any\n" for goal in goals if goal not in NO_GOAL]
-    if said:
-        write(
-            path, f"use Rattle.{f.crate}.proofs.{f.path}.Goals as goal\n{ANY}{''.join(said)}{NO_GOAL}"
-        )
+    if os.path.isfile(path):
+        goals = re.findall(r"^pub (?!no-such-goal)(\S+) : goal\.", read(path), re.M)
+        said = "".join(f"\npub {goal} : goal.{goal}\n{goal} = any\n" for goal in goals)
+        write(path, f"use Rattle.{f.crate}.proofs.{f.path}.Goals as goal\n{ANY}{said}{NO_GOAL}")
 
 
 def put_loops(folder, crate, edited):
@@ -233,8 +228,8 @@ def drop_main(folder, crate):
         shutil.rmtree(f.proof(folder))
 
 
-def prepare(folder, crate, bodies, told):
-    """Puts the wrong bodies into the copy, and the right proofs of their functions. Lines of answers can only refuse an edit in the table."""
+def prepare(folder, crate, bodies):
+    """Puts the wrong bodies into the copy, and the right proofs of their functions."""
     count = {}
     for body in bodies:
         if any(f in count for f in body.functions):
@@ -244,7 +239,7 @@ def prepare(folder, crate, bodies, told):
             count |= dict.fromkeys(body.functions, 1)
             for f in body.functions:
                 put_proof(folder, f, f)
-        for f in body.functions if body.name.removesuffix(".edit") not in told else []:
+        for f in [] if body.is_told else body.functions:
             leave_answers_open(folder, f)
     edits = [it for body in bodies for it in body.edits]
     for path in {it[0] for it in edits}:
@@ -275,11 +270,11 @@ def refusal(folder, body, said):
     return list(dict.fromkeys(goals)), list(dict.fromkeys(lines))
 
 
-def is_as_wanted(body, told, are_right):
+def is_as_wanted(body, are_right):
     """Whether a wrong body is refused, and one that keeps the meaning, or a right one, is not."""
     if are_right:
         return not body.goals and not body.lines
-    return not body.is_refused(told) if body.is_equal else body.is_refused(told)
+    return body.is_refused() != body.is_equal
 
 
 def runs_of(crate):
@@ -304,10 +299,10 @@ def try_some(room, crate, files, where, told, are_right):
     """Tries these in one run."""
     shutil.rmtree(f"{room}/{crate}", ignore_errors=True)
     functions = copied(room, [crate], [crate])
-    bodies = [wrong_body(crate, it, functions) for it in files]
+    bodies = [wrong_body(crate, it, functions, told) for it in files]
     for body in bodies if are_right else []:
         body.edits = [(path, at, old, old) for path, at, old, _ in body.edits]
-    prepare(room, crate, bodies, told)
+    prepare(room, crate, bodies)
     ran = subprocess.run(
         words(room, crate, {f.path.replace(".", "::") for it in bodies for f in it.functions}, where),
         cwd=f"{room}/{crate}",
@@ -321,8 +316,8 @@ def try_some(room, crate, files, where, told, are_right):
     for body in bodies:
         body.goals, body.lines = refusal(room, body, ran.stdout)
         kind = ", which keeps the meaning" if body.is_equal else ""
-        print(f"{body.name}{kind}: {body.report(told)}", flush=True)
-    if not all(is_as_wanted(it, told, are_right) for it in bodies):
+        print(f"{body.name}{kind}: {body.report()}", flush=True)
+    if not all(is_as_wanted(it, are_right) for it in bodies):
         print(f"{crate}: the end of that run's output:\n{ran.stdout[-3000:]}", flush=True)
     return bodies
 
@@ -428,9 +423,9 @@ class Lanes:
             self.open(1)
 
 
-def tried(crates, are_right, log):
+def tried(crates, told, are_right, log):
     """Tries the wrong bodies of these crates, over what is built or beside `rt ci`."""
-    told, lanes = told_of(), len(os.sched_getaffinity(0))
+    lanes = len(os.sched_getaffinity(0))
     with tempfile.TemporaryDirectory(prefix="wrong-bodies-") as room, ThreadPoolExecutor(
         len(crates) + 1
     ) as pool:
@@ -464,8 +459,8 @@ def main(names, are_right, log):
     crates = [it for it in [*LIBRARIES, EXPORTED, CALLERS, PROGRAM] if os.path.isdir(f"{CRATES}/{it}/wrong")]
     if unknown := [it for it in names if it not in crates]:
         sys.exit(f"there are no wrong bodies of {', '.join(unknown)}")
-    bodies = tried([it for it in crates if it in (names or crates)], are_right, log)
-    failed = [it.name for it in bodies if not is_as_wanted(it, told, are_right)]
+    bodies = tried([it for it in crates if it in (names or crates)], told, are_right, log)
+    failed = [it.name for it in bodies if not is_as_wanted(it, are_right)]
     kind = "right" if are_right else "wrong"
     print(
         f"{kind} bodies: {len(bodies) - len(failed)} as they must be, {len(failed)} not: {' '.join(failed)}"
