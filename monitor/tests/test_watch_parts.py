@@ -336,6 +336,19 @@ def test_changes_that_are_too_many() -> None:
     assert [minute.more for minute in told.minutes] == [3, 0]
 
 
+def test_texts_that_hold() -> None:
+    """An item holds until it is no longer sent, or another PI is."""
+    contents, found = Contents(1187.5), []
+    for item, text in (("pi", "D318"), ("ps", "ALPHA"), ("rt", "NOW"), ("ps", None), ("pi", "D319")):
+        contents.take(Event(0, 0xD318, item, text, None, text or ""))
+        found.append(dict(contents.held))
+    assert found[2:] == [
+        {"pi": "D318", "ps": "ALPHA", "rt": "NOW"},
+        {"pi": "D318", "rt": "NOW"},
+        {"pi": "D319"},
+    ]
+
+
 def test_runs_of_a_watch_that_was_killed(tmp_path: Path) -> None:
     """None ends before it began, though the machine's clock was set back."""
     records = Records(str(tmp_path / "watch.db"))
