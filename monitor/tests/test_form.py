@@ -257,6 +257,11 @@ def test_inputs_that_are_no_bits(words_: str, data: bytes, said: str, tmp_path: 
     assert [path.read_bytes() for path in tmp_path.iterdir()] == [b"\x12"] * ("odd number" in said)
 
 
+def test_a_fault_far_in_the_input() -> None:
+    done = monitor("pack", "--from", "text", data=b"01" * 100_000 + b"2")
+    assert done.returncode == 1 and b"character 200001 is neither 0 nor 1" in done.stderr
+
+
 def test_the_number_of_bits_is_told_if_the_last_byte_is_not_full() -> None:
     done = monitor("pack", "--from", "text", data=b"101\n")
     assert done.stdout == b"\xa0" and b"3 bits" in done.stderr and b"--bits 3" in done.stderr
