@@ -176,6 +176,8 @@ def test_every_command_reads_lines() -> None:
     lines = "".join("%04X %04X %04X %04X\n" % word for word in groups).encode()
     assert {"PAXO 318", "A text"} <= {*re.split("  +| *\\(|\n", said("info", data=lines))}
     assert said("groups", data=lines).encode() == lines
+    columns = "begin_s end_s sent valid corrected lost no_sync bad_percent"
+    assert said("errors", data=lines).split()[0] == columns.replace(" ", ",")
 
     def contents(data: bytes) -> List[Any]:
         entries = map(json.loads, said("json", data=data).splitlines())
