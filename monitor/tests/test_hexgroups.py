@@ -121,7 +121,7 @@ def test_times_that_are_late(late: float, losses: int) -> None:
     """A computer that is late writes a time up to 1.25 s after the group. The last line needs no end."""
     first, time = "D318 0548 E0CD 5041 @2026-03-29 00:30:00\n", late + 0.0876
     source, rows = read(f"{first}D318 0549 E0CD 584F @2026-03-29 00:30:0{time:.2f}".encode())
-    assert source.totals.losses == losses and source.totals.groups == 2 and len(rows) == 3 + 2 * losses
+    assert source.totals[:8] == (8, (0,) * 5, 0, 0, 2, 2, 1 + losses, losses) and len(rows) == 3 + 2 * losses
 
 
 def test_a_log_gives_times() -> None:
