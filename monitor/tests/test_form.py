@@ -128,6 +128,13 @@ def test_a_station_that_comes_late(tmp_path: Path) -> None:
     assert forms(tmp_path / "late")[0][1] == "packed bits"
 
 
+def test_a_station_at_the_end(tmp_path: Path) -> None:
+    """The last of the parts that are looked at ends with the file."""
+    random = numpy.random.default_rng(1)
+    (tmp_path / "late").write_bytes(random.bytes(1000000) + STATION_BYTES[:10000])
+    assert forms(tmp_path / "late")[0][1] == "packed bits"
+
+
 def test_two_groups_are_enough(tmp_path: Path) -> None:
     """The one in which sync is acquired is not whole."""
     for count in (3, 2):
