@@ -105,8 +105,6 @@ class RadioText(TaggedText):
             self._take_tags(value)
         else:
             self._tell("rt_ab", "AB"[value & 1])
-            self._characters, self._last_tags = None, -1
-            self._pending.clear()
 
     @staticmethod
     @lru_cache(1 << 8)
