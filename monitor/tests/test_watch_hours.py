@@ -117,6 +117,22 @@ def test_an_hour_that_is_compressed(tmp_path: Path) -> None:
     records.close()
 
 
+def test_an_hour_that_cannot_be_compressed(tmp_path: Path, monkeypatch: pytest.MonkeyPatch) -> None:
+    """The file stays alone, and the disk's fault is told."""
+    plain, records = tmp_path / "hour.csv", Records(str(tmp_path / "watch.db"))
+    plain.write_bytes(b"row\n")
+    files = sorted(tmp_path.iterdir())
+
+    def fsync(_: int) -> None:
+        raise OSError(28, "No space left on device")
+
+    monkeypatch.setattr(os, "fsync", fsync)
+    with pytest.raises(OSError, match="No space left"):
+        compress(str(tmp_path), "hour.csv", records)
+    assert sorted(tmp_path.iterdir()) == files
+    records.close()
+
+
 def test_options_say_more_than_a_name(station_listing: bytes, tmp_path: Path) -> None:
     path = tmp_path / Hour(HOUR, HOUR + 12.5).name
     path.write_bytes(station_listing[: station_listing.rindex(b"group,")])
