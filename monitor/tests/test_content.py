@@ -13,7 +13,7 @@ from conftest import encode
 from rds_monitor.content.decoder import ITEMS, Decoder, Event
 from rds_monitor.content.looks import name_of
 from rds_monitor.content.networks import FrequencyList
-from rds_monitor.rows.items import CORRECTED
+from rds_monitor.rows.items import CORRECTED, LOSS, LOST
 from rds_monitor.rows.opening import open_source
 from sent import Words, clock, eon, eon_name, events_of, group, label, name, oda, segments, tags, text, told
 from sent import Damage, rows_of, type_name
@@ -384,6 +384,23 @@ def test_corrected_blocks_alone_say_nothing(size: int) -> None:
         (6 * 104, 11),
         (7 * 104, 10),
     ]
+
+
+@pytest.mark.parametrize("acquired, heard", [([0], [10, 11]), ([0, 1], [10])])
+@pytest.mark.parametrize("loss", [False, True])
+def test_groups_without_pi_are_of_no_programme_after_an_acquisition(
+    acquired: List[int], heard: List[int], loss: bool
+) -> None:
+    """However rows are cut into chunks, and if sync was lost before any group came."""
+    groups = [group("6A", 0), group("6A", 0, pty=11), group("6A", 0, pty=11)]
+    rows = rows_of(groups, [(1, Damage(1, LOST)), (2, Damage(1, LOST))], acquired)
+    if loss and len(acquired) > 1:
+        rows = numpy.insert(rows, 3, rows[2])
+        rows["what"][3] = LOSS
+    for size in range(1, len(rows) + 1):
+        decoder = Decoder()
+        events = [event for at in range(0, len(rows), size) for event in decoder.feed(rows[at : at + size])]
+        assert told(events, "pty") == heard
 
 
 SAME = text(b"The same\r", 0) + text(b"The same\r", 1) + text(b"The same\r", 0)
