@@ -386,6 +386,13 @@ def test_corrected_blocks_alone_say_nothing(size: int) -> None:
     ]
 
 
+def test_another_programme_comes_after_the_one_before_it() -> None:
+    """No value of the programme before is one of the other."""
+    events = events_of([group("6A", 0), group("6A", 0, pi=0xD319)])
+    found = [(event.value, event.before) for event in events if event.item in ("pi", "pty")]
+    assert found == [("D318", None), (10, None), ("D319", "D318"), (10, None)]
+
+
 @pytest.mark.parametrize("acquired, heard", [([0], [10, 11]), ([0, 1], [10])])
 @pytest.mark.parametrize("loss", [False, True])
 def test_groups_without_pi_are_of_no_programme_after_an_acquisition(
