@@ -10,6 +10,7 @@ import pytest
 
 import sent
 from conftest import encode
+from rds_monitor.content import evidence, received
 from rds_monitor.content.decoder import ITEMS, Decoder, Event
 from rds_monitor.content.looks import name_of
 from rds_monitor.content.networks import FrequencyList
@@ -616,3 +617,27 @@ def test_another_method_replaces_the_list() -> None:
 
 def test_a_wrong_pair_does_not_stay() -> None:
     assert lists(4 * A + [0xE50A, 0x1E32, 0x9999, 0x465A] + 6 * A)[-1] == ALL_OF_A
+
+
+# ---- parts and names that noise begins are forgotten
+
+
+@pytest.mark.parametrize("most, kept", [(3, [1]), (4, [0, 1, 2, 3])])
+def test_parts_that_never_counted_are_forgotten(most: int, kept: List[int], monkeypatch: Any) -> None:
+    """If there are more than the most; one of four is of a whole group."""
+    monkeypatch.setattr(evidence, "MOST_PARTS", most)
+    seen, number, is_whole = evidence.Evidence(), numpy.arange(4), numpy.arange(4) == 1
+    seen.news(evidence.Observations(number, number, number, is_whole, is_whole), number)
+    assert [*seen.parts] == kept
+
+
+@pytest.mark.parametrize("most, names", [(2, ["OTHER FM"]), (3, ["OTHER FM", "THIRD FM"])])
+def test_names_of_networks_that_were_never_whole_are_forgotten(
+    most: int, names: List[str], monkeypatch: Any
+) -> None:
+    """The second of three has its halves before and after the third begins. The first is told once."""
+    monkeypatch.setattr(received, "MOST_BEGUN", most)
+    first, second, third = eon_name(b"OTHER FM"), eon_name(b"THIRD FM", 0xD313), eon_name(b"LAST", 0xD314)
+    rows, decoder = rows_of([*first, *second[:2], third[0], *second[2:], *first]), Decoder(lapses=True)
+    events = [event for at in range(len(rows)) for event in decoder.feed(rows[at : at + 1])]
+    assert told(events, *(f"eon:{pi}.ps" for pi in ("D312", "D313", "D314"))) == names
