@@ -210,6 +210,8 @@ CASES: Dict[str, Case] = {
     "14B: no TA": Case([group("14B", 0x10, 0, 0xD312)], {"eon:D312.tp": True, "eon:D312.ta": False}),
     "15A: long PS": Case(segments("15A", "Straße, täglich\r".encode(), 8), {"lps": "Straße, täglich"}),
     "15A: 32 bytes": Case(segments("15A", TEXT_32.encode()), {"lps": TEXT_32}),
+    "15A: a long PS filled up": Case(segments("15A", b"Jazz\0\0", 8), {"lps": "Jazz"}),
+    "RT+ with blanks": Case([RT_PLUS, *SONG, tags(1, 1, (1, 0, 4), (4, 7, 6))], TAGGED),
     "RT+": Case(
         [RT_PLUS, *SONG, tags(1, 1, TITLE, ARTIST)], {**TAGGED, "rt_plus_running": True, "rt_plus_toggle": 1}
     ),
