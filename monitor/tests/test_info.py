@@ -15,6 +15,7 @@ import pytest
 
 from conftest import COMMAND, STATION, encode, monitor, rds
 from made import output as said
+from rds_monitor.content import info
 from rds_monitor.rows.listing import TOTAL_NAMES
 from sent import Words, clock, eon, group, label, name, oda, segments, tags, text
 
@@ -79,6 +80,23 @@ def test_the_summary() -> None:
     assert [line for line in wanted.strip("\n").splitlines() if line not in found] == []
     two = said("info", data=bits(*name(b"ONE"), *name(b"TWO", pi=0xD319)))
     assert [line for line in two.splitlines() if line and line[0] != " "] == ["D318 ONE", "D319 TWO"]
+
+
+@pytest.mark.parametrize(
+    "item, shown",
+    [
+        *(
+            ("ps", "PS"),
+            ("ms", "Music/speech"),
+            ("oda:CD46", "ODA CD46"),
+            ("rt_plus:item.title", "RT+ item.title"),
+        ),
+        *(("eon:D312.ps", "EON D312 PS"), ("eon:D312.af", "EON D312 AF")),
+        *(("eon:D312.mapped:98.1", "EON D312 mapped 98.1"), ("af:89.3", "AF 89.3")),
+    ],
+)
+def test_an_item_has_a_name_for_a_reader(item: str, shown: str) -> None:
+    assert info.label(item) == shown
 
 
 def test_no_station() -> None:
