@@ -128,6 +128,12 @@ CASES: Dict[str, Case] = {
     "6A: data of another application": Case(
         [group("6A", 3, 1, 2), oda(0x1234, "6A"), group("6A", 3, 1, 3)], {"ih_data": None}, {"data": True}
     ),
+    "5B: an application that comes later, bytes": Case(
+        [group("5B", 3, 0, 2), oda(0x1234, "5B")], {"tdc:3": None, "tdc_data:3": None}, {"data": True}
+    ),
+    "6B: data of an application that comes later": Case(
+        [group("6B", 3, 0, 2), oda(0x1234, "6B")], {"ih": None, "ih_data": None}, {"data": True}
+    ),
     "6A: in-house data if not asked for": Case([group("6A", 3, 1, 2)], {"ih": True, "ih_data": None}),
     "6B: in-house": Case([group("6B", 3, 1, 2)], {"ih": True}),
     "7A: radio paging": Case([group("7A", 3, 1, 2)], {"rp": True}),
@@ -138,6 +144,15 @@ CASES: Dict[str, Case] = {
         [oda(0xCD46, "8A", 0x0067), oda(0xCD46, "8A", 0x62C0)],
         {"tmc_service": SERVICE},
         texts={"tmc_service": "location table 1, service 11, national regional urban"},
+    ),
+    "8A: TMC service by two variants of no service": Case(
+        [oda(0xCD46, "8A", 0x0074), oda(0xCD46, "8A", 0x8140), oda(0xCD46, "8A", 0xC140)],
+        {
+            "tmc_service": dict(
+                location_table=1, alternative_frequencies=True, mode="enhanced", scope=["national"]
+            )
+        },
+        texts={"tmc_service": "location table 1, national"},
     ),
     "8A: TMC message in one group": Case(
         [group("8A", 0b01101, 1 << 15 | 1 << 14 | 3 << 11 | 701, 4321)],
