@@ -82,6 +82,13 @@ def test_the_summary() -> None:
     assert [line for line in two.splitlines() if line and line[0] != " "] == ["D318 ONE", "D319 TWO"]
 
 
+def test_times_are_in_the_last_columns() -> None:
+    """To the millisecond. The first group counts from bit 104 on, and a bit takes 1 / 1187.5 s."""
+    found = said("info", "--csv", "--start", "2026-03-29T00:30:00Z", data=bits(*name(b"ONE"))).splitlines()
+    assert found[0] == "time_s,pi,item,value,bit,time_utc"
+    assert found[1] == "0.088,D318,pi,D318,104,2026-03-29T00:30:00.088Z"
+
+
 @pytest.mark.parametrize(
     "item, shown",
     [
