@@ -200,6 +200,16 @@ def test_events_in_order() -> None:
     assert [entry["bit"] for entry in found] == sorted(entry["bit"] for entry in found)
 
 
+def test_values_of_json_are_numbers_and_texts_for_a_reader() -> None:
+    """And the value before, by each event."""
+    data = bits(*name(b"ONE"), group("6A", 0, pty=11))
+    found = [entry for entry in lines(said("json", data=data)) if entry.get("item") in ("pty", "ta", "ps")]
+    assert [(entry["value"], entry["before"], entry["text"]) for entry in found] == [
+        *((10, None, "10 Pop music"), (False, None, "no"), ("ONE", None, "ONE")),
+        (11, 10, "11 Rock music"),
+    ]
+
+
 def block_text(block: Any) -> str:
     if block is None or "lost" in block:
         return "lost" if block else "none"
