@@ -52,6 +52,13 @@ def test_chunks_change_nothing(rows: Rows) -> None:
     assert [before + after[27:] for before, _, after in timed] == whole
 
 
+def test_times_are_told_while_the_start_is_known(rows: Rows) -> None:
+    redsea, third = Redsea(Decoder(lapses=True)), len(rows) // 3
+    for begin, clock in ((0, Clock()), (third, Clock(0.0)), (2 * third, Clock())):
+        found = redsea.lines(rows[begin : begin + third], clock)
+        assert {',"rx_time":"1970-01-01T00:0' in line for line in found} == {clock.start is not None}
+
+
 def test_the_text_of_a_group_is_made_once(rows: Rows, monkeypatch: Any) -> None:
     """While the items hold that it tells: a new RT has no effect on the segments that do not write it."""
     made: List[int] = []
