@@ -368,6 +368,12 @@ def test_the_least_of_a_header() -> None:
             wav_layout(io.BytesIO(one + bytes(4) + other + chunks))
 
 
+@pytest.mark.parametrize("written, length", [(0, None), (1, 1), (0xFFFFFFFF, None)])
+def test_lengths_that_mean_none(written: int, length: Any) -> None:
+    header = wav(b"", "s16", 192000)[:40]
+    assert wav_layout(io.BytesIO(header + struct.pack("<I", written))).length == length
+
+
 @pytest.mark.parametrize("form", ["u8", "s16", "s24", "s32", "f32", "f64"])
 def test_samples_of_a_file(form: str, file: Any) -> None:
     """Longer than a block, with both ends of the scale, to a step of the form."""
@@ -551,6 +557,9 @@ NO_INPUTS = [
     ("", WAV[:30], "the WAV file ends within its header"),
     ("", wav(b"", "s16", 192000, more=b"LIST" + b"\xff" * 4 + bytes(100)), "ends within its header"),
     ("", WAV.replace(b"\1\0\1\0", b"\7\0\1\0", 1), "WAV samples of format 7 with 16 bits are not read"),
+    ("", WAV.replace(b"fmt ", b"none", 1), "the WAV file does not say what its samples are"),
+    ("", WAV.replace(b"\1\0\1\0", b"\1\0\0\0", 1), "the WAV file has no channel"),
+    ("--iq", WAV, "IQ has two channels, and the input has 1"),
     ("none-such", b"", "'none-such' cannot be read: No such file or directory"),
 ]
 

@@ -2,6 +2,7 @@
 
 from __future__ import annotations
 
+import io
 import os
 import re
 import subprocess
@@ -343,6 +344,14 @@ def test_what_was_written_in_a_form_is_read(
         parts, counts = zip(*packed_of(bits_of(stream, form, change)))
     if set(sent.tolist()) == {0, 1}:
         assert (b"".join(parts), sum(counts)) == (b"\x5a" + data, bits.size)
+
+
+def test_samples_of_a_wav_file_without_a_length() -> None:
+    """All up to the end of the input, in more than one chunk."""
+    data = wav(samples("u1", 40, 210), "u8", 1187)
+    stream = io.BytesIO(data[:40] + b"\xff" * 4 + data[44:])
+    with unittest.mock.patch("rds_monitor.signal.pack.CHUNK", 8192):
+        assert (numpy.concatenate([*bits_of(stream, "wav")]) == BITS).all()
 
 
 @pytest.mark.parametrize("size, begin", [(64, 0), (95, 0), (96, 16), (384, 160)])

@@ -22,6 +22,7 @@ from rds_monitor.capture.stations import HEAD
 from rds_monitor.rows.items import Fault
 from rds_monitor.signal.centre import centre_in_auxi, centre_in_name, frequency_of, frequency_text, sigmf_of
 from rds_monitor.signal.found import Spectrum, candidates, with_rds
+from rds_monitor.signal.samples import open_samples
 from rds_monitor.signal.several import LineWriter, TunedStations, Tuning
 
 pytestmark = pytest.mark.xdist_group("stations")
@@ -292,6 +293,32 @@ def test_sigmf(capture: bytes, tmp_path: Path) -> None:
     assert sigmf_of(str(data)) is None
 
 
+KINDS = {"cu8": "u8", "ci16_le": "s16", "ci16": "s16", "cf32_le": "f32", "cf32": "f32"}
+
+
+@pytest.mark.parametrize("kind", KINDS)
+def test_kinds_of_sigmf(kind: str, tmp_path: Path) -> None:
+    """The first capture has the centre. A rate that is named overrides the one described."""
+    data, meta = (tmp_path / f"it.sigmf-{name}" for name in ("data", "meta"))
+    described = {"core:datatype": kind, "core:sample_rate": 250000.4}
+    for frequencies, centre in (([9e7, 8e7], 9e7), ([], None)):
+        captures = [{"core:frequency": one} for one in frequencies]
+        meta.write_text(json.dumps({"global": described, "captures": captures}))
+        assert sigmf_of(str(meta)) == (str(data), KINDS[kind], 250000, centre)
+    data.write_bytes(bytes(8))
+    for named, rate in ((None, 250000), (192000, 192000)):
+        assert open_samples(str(meta), raw=None, rate=named, channel=None, is_iq=False).rate == rate
+
+
+@pytest.mark.parametrize("more, centre", [(b"", 98.1e6), (AUXI, 97.95e6)])
+def test_a_header_has_the_centre_or_else_the_name(more: bytes, centre: float, tmp_path: Path) -> None:
+    path = tmp_path / "98100000Hz"
+    path.write_bytes(wav(bytes(8), "s16", RATE, channels=2, more=more))
+    for raw, wanted in ((None, centre), ("u8", 98.1e6)):
+        source = open_samples(str(path), raw=raw, rate=RATE, channel=None, is_iq=True)
+        assert source.centre == wanted
+
+
 def test_two_that_are_too_near() -> None:
     """The better one counts, wherever it is; those 150 kHz apart are two, and noise is none."""
     shares, offsets = (0.5, 0.9, 0.6, 0.04, 0.05), (-100e3, 0.0, 150e3, 400e3, 600e3)
@@ -335,6 +362,7 @@ def test_frequencies() -> None:
     for text in ("", "98.1 MHz", "nan", "1e99", "1000G"):
         with pytest.raises(Fault):
             frequency_of(text)
+    assert [str(Tuning(98e6, 600000).hertz(offset)) for offset in (0.25, 2.0)] == ["98000000.25", "98000002"]
     band = Tuning(97.95e6, 600000)
     assert band.offsets_of("97.75M,98.15M") == [-2e5, 2e5]
     with pytest.raises(Fault, match="98.150001M is not in the band"):
