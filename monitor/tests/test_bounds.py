@@ -3,6 +3,7 @@
 from __future__ import annotations
 
 import argparse
+import io
 import math
 from fractions import Fraction
 from typing import Any, Callable, List, Tuple
@@ -20,6 +21,8 @@ from rds_monitor.page.line import CUT, join
 from rds_monitor.rows.clock import number_of, rate_of, start_of
 from rds_monitor.rows.inputs import bits_of, gaps_of, input_options, margin_of, rules_of
 from rds_monitor.rows.items import Fault, Misuse
+from rds_monitor.signal import samples
+from rds_monitor.signal.demod import judge_options, options_demod
 from rds_monitor.signal.filters import Bands, Passband, at_least, fast_size
 from rds_monitor.signal.found import is_inside, spectrum_of
 from rds_monitor.signal.jumps import Jumps
@@ -197,6 +200,50 @@ def test_numbers_that_are_samples() -> None:
     assert [part.tolist() for part in checked(taken, 5)] == [taken.tolist()]
     with pytest.raises(Fault, match="^sample 9 is -1000000000000.0: "):
         list(checked(numpy.array([*taken, -1e12]), 5))
+    with pytest.raises(Fault, match="^sample 8 is 2000000000000.0: "):
+        list(checked(numpy.array([0, 1, 2e12j]), 5))
+
+
+def test_the_place_of_a_number_that_is_no_sample(monkeypatch: pytest.MonkeyPatch) -> None:
+    """It counts the samples of all blocks."""
+    monkeypatch.setattr(samples, "FRAMES_OF_FILE", 4)
+    data = io.BytesIO(numpy.array([*range(9), math.inf], "<f4").tobytes())
+    with pytest.raises(Fault, match="^sample 10 is inf: "):
+        list(samples.StoredSamples(data, samples.Layout(192000, 1, "f32"), (0,)).blocks())
+
+
+@pytest.mark.parametrize("wanted, count", [(5, 2), (6, 2), (7, 3), (99, 4)])
+def test_how_many_blocks_a_beginning_has(wanted: int, count: int) -> None:
+    assert len(samples.beginning_of(iter([numpy.zeros(3)] * 4), wanted)) == count
+
+
+# Words of `demod`, and the fault.
+MISUSES = [
+    ("--at 98M", "--at, --equalise and --centre are for --stations"),
+    ("--equalise 98M", "--at, --equalise and --centre are for --stations"),
+    ("--iq --centre 0", "--at, --equalise and --centre are for --stations"),
+    ("--no-equaliser", "--offset and --no-equaliser are for --iq"),
+    ("--stations --no-equaliser", "--offset and --no-equaliser are for one station"),
+    ("--stations --offset 1", "--offset and --no-equaliser are for one station"),
+    ("--stations --unpacked", "--unpacked needs a folder"),
+    ("--iq --channel 1", "--channel is for MPX"),
+    ("--stations --unpacked --output it --equalise 98M --at 98M --centre 0 --every 0.1", ""),
+    ("--iq --no-equaliser --offset 1 --soft", ""),
+    ("--channel 2 --unpacked", ""),
+]
+
+
+@pytest.mark.parametrize("words, fault", MISUSES)
+def test_options_of_demod(words: str, fault: str) -> None:
+    parser = argparse.ArgumentParser()
+    options_demod(parser)
+    given = parser.parse_args(words.split())
+    if not fault:
+        judge_options(given)
+        assert given.iq == ("--stations" in words or "--iq" in words)
+        return
+    with pytest.raises(Misuse, match=f"^{fault}"):
+        judge_options(given)
 
 
 def test_the_power_of_a_spectrum() -> None:

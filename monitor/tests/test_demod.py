@@ -2,12 +2,14 @@
 
 from __future__ import annotations
 
+import argparse
 import io
 import json
 import os
 import re
 import struct
 from pathlib import Path
+from types import SimpleNamespace
 from typing import Any, Dict, List, Tuple
 
 import measure_demod
@@ -20,7 +22,8 @@ from made import on_a_terminal, peak_memory, run
 from measure_demod import TABLES, Words, bits_of, right, whole_groups
 from modulator import Array, dropped, iq, mpx, stored, wav, words
 
-from rds_monitor.signal.outputs import sentence
+from rds_monitor.signal.demod import no_rds
+from rds_monitor.signal.outputs import QualityLine, sentence
 from rds_monitor.signal.rates import BLOCK, COMMON, _prominence
 from rds_monitor.capture.stations import SECONDS
 from rds_monitor.signal.receiver import CARRIER_HZ, CHANNEL_HZ, RATES, Capture
@@ -521,6 +524,23 @@ def test_a_wrong_rate_is_told(rate: int, said: int) -> None:
     done = monitor("demod", "--raw", "s16", "--rate", said, data=data)
     fault = f"no RDS at {said} samples per second, but at {rate}: use --rate {rate}"
     assert done.returncode == 1 and fault in done.stderr.decode()
+
+
+def test_a_wrong_rate_of_iq_beside_the_centre() -> None:
+    """The channel is looked at where the station is."""
+    signal = iq(mpx(encode(GROUPS[:12]), 480000, snr=40), 480000, cnr=40, offset=150000.0)
+    source: Any = SimpleNamespace(rate=500000)
+    assert "at 500000 samples per second, but at 480000" in str(no_rds(source, signal, 150000.0))
+
+
+def test_when_reports_are_due() -> None:
+    """From the first interval on, each at its end, and with the name of the station."""
+    asked, stream = argparse.Namespace(json=False, every=2.0), io.StringIO()
+    teller = QualityLine(asked, stream, "98.1M")
+    for seconds in (1.9, 2.0, 3.9, 4.0, 4.1):
+        teller.tell(seconds, lambda: {"locked": 0, "seconds": seconds})
+    lines = [f"rds-monitor demod: 98.1M: {seconds} s, no RDS\n" for seconds in (2.0, 4.0)]
+    assert stream.getvalue() == "".join(lines)
 
 
 def test_a_wrong_rate_in_a_header_and_no_rds(signal: Array, file: Any) -> None:

@@ -136,6 +136,16 @@ def test_a_station_at_the_end(tmp_path: Path) -> None:
     assert forms(tmp_path / "late")[0][1] == "packed bits"
 
 
+def test_parts_of_a_long_file(tmp_path: Path) -> None:
+    """The header, then 25 parts at equal distances after it; a file that has no more than these is whole."""
+    path, data = tmp_path / "it", bytes(range(251)) * 2000
+    path.write_bytes(data[: 46 + 260000])
+    parts = [data[begin : begin + 10000] for begin in range(46, 46 + 25 * 10416, 10416)]
+    assert form.parts_of(str(path), 46) == data[:46] + b"".join(parts)
+    path.write_bytes(data[: 46 + 249999])
+    assert form.parts_of(str(path), 46) == path.read_bytes()
+
+
 def test_two_groups_are_enough(tmp_path: Path) -> None:
     """The one in which sync is acquired is not whole."""
     for count in (3, 2):
@@ -211,6 +221,7 @@ def test_rates_by_the_strongest_lines(apart: int) -> None:
     power[beside] = 0.07
     second = 301230 if abs(apart) == 8 else round(1900 / beside * BLOCK) * 10
     assert _by_pilot(power) == [213370, second]
+    assert _by_pilot(0 * power) == []
 
 
 def test_two_blocks_of_samples_tell_the_rate(signal: Array) -> None:

@@ -189,6 +189,8 @@ def test_the_channel_and_the_discriminator() -> None:
     bands = [found.bands[0] for found in cut if found]
     assert cut[0] is None and [band.block for band in bands] == [8192, 4096, 8192, 65536]
     assert all(234000 <= band.rate_out < 245761 and not band.is_real for band in bands)
+    narrow = station_channels(200000, [5e3])
+    assert narrow and (narrow.bands[0].rate_out, narrow.bands[0].kept) == (200000, 4096)
     frequencies = numpy.array([0, 82e3, -99e3, 116e3, -2e5])
     assert channel_filter(frequencies) == pytest.approx([1, 1, 0.5, 0, 0])
     tone, receiver = 2 * numpy.exp(0.075j * math.pi * numpy.arange(900)), FmReceiver(Fraction(200000), False)

@@ -182,6 +182,8 @@ def test_how_high_a_hump_is() -> None:
     for more, wanted in ((1.0, [150e3]), (0.03, [])):
         power = 1.0 + more * (abs(offsets - 150e3) <= 50e3)
         assert candidates(Spectrum(power, offsets), 0.0) == wanted
+    power = 1.0 + (abs(offsets - 130e3) <= 50e3)
+    assert candidates(Spectrum(power, offsets), 97.97e6) == [130e3]
 
 
 def test_no_station() -> None:
