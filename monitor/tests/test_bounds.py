@@ -6,6 +6,7 @@ import argparse
 import io
 import math
 from fractions import Fraction
+from types import SimpleNamespace
 from typing import Any, Callable, List, Tuple
 
 import numpy
@@ -210,6 +211,19 @@ def test_the_place_of_a_number_that_is_no_sample(monkeypatch: pytest.MonkeyPatch
     data = io.BytesIO(numpy.array([*range(9), math.inf], "<f4").tobytes())
     with pytest.raises(Fault, match="^sample 10 is inf: "):
         list(samples.StoredSamples(data, samples.Layout(192000, 1, "f32"), (0,)).blocks())
+
+
+@pytest.mark.parametrize("is_file, sizes", [(True, [4, 4, 1]), (False, [2, 2, 2, 2, 1])])
+def test_blocks_of_a_pipe_are_shorter(
+    is_file: bool, sizes: List[int], monkeypatch: pytest.MonkeyPatch
+) -> None:
+    """So that it is heard without delay."""
+    monkeypatch.setattr(samples, "FRAMES_OF_FILE", 4)
+    monkeypatch.setattr(samples, "FRAMES_PER_BLOCK", 2)
+    data = io.BytesIO(bytes(18))
+    stream: Any = SimpleNamespace(read=data.read, seekable=lambda: is_file)
+    source = samples.StoredSamples(stream, samples.Layout(192000, 1, "s16"), (0,))
+    assert [*map(len, source.blocks())] == sizes
 
 
 @pytest.mark.parametrize("wanted, count", [(5, 2), (6, 2), (7, 3), (99, 4)])

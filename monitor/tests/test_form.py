@@ -2,6 +2,7 @@
 
 from __future__ import annotations
 
+import argparse
 import io
 import os
 import re
@@ -108,6 +109,18 @@ def test_the_form_and_its_cure(
     assert (found, cure.startswith(command)) == (name, True) and groups >= 500
     # the command decodes nothing
     assert decoder == "rds" or shell(cure, tmp_path) == STATION_BYTES
+
+
+def test_forms_are_in_columns(
+    tmp_path: Path, monkeypatch: pytest.MonkeyPatch, capsys: pytest.CaptureFixture[str]
+) -> None:
+    """The one with the most groups is first."""
+    (tmp_path / "it").write_bytes(b"\0")
+    monkeypatch.setattr(
+        form, "forms_of", lambda path, head: [(2, "longer", "cat a"), (1922, "form", "cat b")]
+    )
+    assert form.run_form(argparse.Namespace(input=str(tmp_path / "it"))) == 0
+    assert capsys.readouterr().out.splitlines()[1:] == ["  1922  form    cat b", "     2  longer  cat a"]
 
 
 def test_lines_of_groups(tmp_path: Path) -> None:

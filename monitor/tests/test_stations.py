@@ -250,6 +250,8 @@ def test_misuse(words_: List[str]) -> None:
         ("29-Nov-2026 120000.123 98.100MHz 000.wav", 98100000),
         ("gqrx_20261129_120000_98100000_2400000_fc.raw", 98100000),
         ("monday_2400000.u8", None),
+        ("1.0900000008ghz.u8", 1090000000.8),
+        ("0.1234567 khz.u8", 123.457),
     ],
 )
 def test_names(name: str, centre: Any) -> None:
@@ -360,7 +362,8 @@ def test_frequencies() -> None:
         "100M",
         "+0.3M",
     ]
-    assert frequency_of("999.999G") < 1e12
+    assert frequency_of("999.999G") < 1e12 and frequency_of("1.2345678k") == 1234.568
+    assert frequency_text(101234567.8) == "101.2345678M"
     for text in ("", "98.1 MHz", "nan", "1e99", "1000G"):
         with pytest.raises(Fault):
             frequency_of(text)
