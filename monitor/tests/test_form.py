@@ -83,6 +83,7 @@ FORMS = [
     ),
     ("hexadecimal digits", HEX, "hex"),
     ("hexadecimal digits, inverted", INVERTED.hex().encode(), "hex --invert"),
+    ("hexadecimal digits, lowest bit first", lowest_first(STATION_BYTES).hex().encode(), "hex --lsb-first"),
     ("unpacked bits, bytes 0 and 1", samples("u1", 0, 1), "bytes"),
     ("unpacked bits, bytes 0 and 255", samples("u1", 0, 255), "bytes255"),
     ("a text of 0 and 1", samples("u1", 48, 49), "text"),

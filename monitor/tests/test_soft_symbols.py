@@ -21,7 +21,7 @@ from rds_monitor.signal.fm import Equaliser, FmReceiver, channel_filter, station
 from rds_monitor.signal.phase import PhaseTrack
 from rds_monitor.signal.receiver import Capture
 from rds_monitor.signal.soft import SoftSymbols
-from rds_monitor.signal.symbols import SymbolChain, Symbols, interpolated
+from rds_monitor.signal.symbols import Pairing, SymbolChain, Symbols, interpolated
 
 RATE = 192000
 SENT = encode(words(5, 60))
@@ -72,6 +72,16 @@ def test_how_far_clock_and_carrier_are_followed(ppm: float, hertz: float, begin:
         assert found.symbols[160:-160].imag == pytest.approx(0, abs=0.1)
         end = begin + 12 * found.symbols.size / (1 + ppm / 1e6)
         assert found.locked.all() and (chain.begin, chain.end) == pytest.approx((begin, end), abs=1.5)
+
+
+@pytest.mark.parametrize("way", [0, 1])
+def test_chips_are_paired_as_before(way: int) -> None:
+    """Through silence, in which neither way is stronger."""
+    pairing, bits = Pairing(), numpy.random.default_rng(1).integers(0, 2, 640)
+    chips = numpy.concatenate([numpy.zeros(way), chips_of(bits)[:1280], numpy.zeros(1280 - way)])
+    for part in numpy.split(chips + 0j, 20):
+        pairing.push(part)
+    assert pairing.first_way == pairing.way == way
 
 
 # ---- by a definition
