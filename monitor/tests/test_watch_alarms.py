@@ -4,6 +4,7 @@ from __future__ import annotations
 
 import json
 import math
+from dataclasses import fields
 from typing import Any, Dict, List, Optional, Tuple
 
 import pytest
@@ -11,12 +12,13 @@ import pytest
 from network import stations
 from rds_monitor.content.decoder import Event
 from rds_monitor.measures.clock import Tick
-from rds_monitor.watch.alarms import Alarm, Alarms, Change, Trouble, Watched, words_for
-from rds_monitor.watch.table import table_of
+from rds_monitor.watch.alarms import NAMES, Alarm, Alarms, Change, Trouble, Watched, words_for
+from rds_monitor.watch.table import AlarmLimits, table_of
 from rds_monitor.watch.times import BitPace, Timing
 
-# Whole seconds are at whole positions.
-TIMING = Timing(0.0, 1200.0)
+# Whole seconds are at whole positions. UTC is ahead of the monotonic clock.
+AHEAD = 1000.0
+TIMING = Timing(AHEAD, 1200.0)
 
 
 class Judged:
@@ -35,14 +37,14 @@ class Judged:
         """`count` seconds in which this holds; `age` and `quiet` grow if they are above 2."""
         since = self.now + 1
         told = [
-            Event(TIMING.place(since), 0xD318, item, value, None, str(value))
+            Event(TIMING.place(since + AHEAD), 0xD318, item, value, None, str(value))
             for item, value in held.items()
             if self.held.get(item) != value
         ]
         self.held.update(held)
         for n in range(count):
             self.now += 1
-            self.alarms.take(told if n == 0 else [], [], [], TIMING, 0.0)
+            self.alarms.take(told if n == 0 else [], [], [], TIMING, AHEAD)
             byte = self.now - (quiet + n if quiet else 0)
             paced = None if pace is None else BitPace(pace, since)
             seen = Watched(byte, age + n if age > 2 else age, self.held, paced)
@@ -53,14 +55,14 @@ class Judged:
 
     def minutes(self, *percents: float) -> "Judged":
         for percent in percents:
-            self.alarms.take([], [percent], [], TIMING, 0.0)
+            self.alarms.take([], [percent], [], TIMING, AHEAD)
             self.seconds(1)
         return self
 
     def ticks(self, *offsets: float) -> "Judged":
         for offset in offsets:
-            place = TIMING.place(self.now)
-            self.alarms.take([], [], [Tick(place, int(TIMING.utc(place) + offset))], TIMING, 0.0)
+            place = TIMING.place(self.now + AHEAD)
+            self.alarms.take([], [], [Tick(place, int(TIMING.utc(place) + offset))], TIMING, AHEAD)
             self.seconds(1)
         return self
 
@@ -170,7 +172,7 @@ def test_no_clock_time() -> None:
 def test_a_clock_time_counts_from_when_it_was_sent() -> None:
     """As long as its bits took to come, and the last of those that came at once."""
     judged = Judged("[station.alarms]", "ct_absent = 150").seconds(100)
-    judged.alarms.take([], [], [Tick(TIMING.place(at), at) for at in (10, 70)], TIMING, 0.0)
+    judged.alarms.take([], [], [Tick(TIMING.place(at), at) for at in (1010, 1070)], TIMING, AHEAD)
     assert judged.seconds(200).found == [("ct_absent", True, 220.0)]
 
 
@@ -292,6 +294,28 @@ def test_the_pace_of_bits() -> None:
     assert Judged().seconds(200, pace=1.01).seconds(200, pace=0.99).found == []
 
 
+def test_seconds_of_an_unknown_pace_count_once_it_is_known() -> None:
+    judged = Judged().seconds(50, pace=1.02).seconds(30, pace=None)
+    assert judged.found == []
+    assert judged.seconds(5, pace=1.02).found == [("fast", True, 81.0)]
+
+
+@pytest.mark.parametrize("offset, count", [(20, 0), (21, 1)])
+def test_clock_time_of_a_faster_watch(offset: int, count: int) -> None:
+    assert len(Judged(speed=4).ticks(offset, offset, offset).found) == count
+
+
+def test_two_texts_at_once_that_are_not_expected() -> None:
+    """Neither of them is a text that fitted."""
+    judged = Judged('ps = "ALPHA"').seconds(50, ps="BETA")
+    texts = enumerate(("GAMMA", "DELTA"), TIMING.place(50 + AHEAD))
+    judged.alarms.take(
+        [Event(at, 0xD318, "ps", text, None, text) for at, text in texts], [], [], TIMING, AHEAD
+    )
+    judged.held["ps"] = "DELTA"
+    assert judged.seconds(20).found == [("ps", True, 61.0)]
+
+
 def test_an_alarm_outlasts_the_watch() -> None:
     judged = Judged('pi = "D318"')
     lasting = {"pi": ("PI D319", 100.0), "unknown": ("of a later version", 1.0)}
@@ -299,6 +323,24 @@ def test_an_alarm_outlasts_the_watch() -> None:
     judged.seconds(5, pi="D319").seconds(15, pi="D318")
     assert judged.found == [("pi", False, 16.0)] and judged.alarms.lasting == {}
     assert judged.texts == ["PI D319; it lasted 116 s"]
+
+
+def test_an_alarm_that_was_ending_outlasts_the_watch() -> None:
+    judged = Judged('pi = "D318"')
+    judged.alarms.resume({"pi": ("PI D319", 100.0)}, {"gone": {"pi": 8.0, "unknown": 1.0}}, 0.0)
+    assert judged.seconds(15).found == [("pi", False, 2.0)]
+
+
+def test_sessions_outlast_the_watch() -> None:
+    """They are older by the time in which none ran."""
+    judged = Judged("[station.alarms]", "flapping = 1")
+    judged.alarms.resume({}, {"sessions": [3000.0, 3000.0]}, 500.0)
+    assert judged.seconds(110).found == [("flapping", True, 1.0), ("flapping", False, 100.0)]
+
+
+def test_alarms_are_in_the_order_of_their_limits() -> None:
+    limits = [field.name for field in fields(AlarmLimits)]
+    assert [*NAMES] == [name for name in limits if name not in ("errors_percent", "ct_offset")]
 
 
 def test_an_alarm_outlasts_another_table() -> None:
