@@ -19,7 +19,15 @@ from rds_monitor.watch.alarms import NAMES
 from rds_monitor.watch.metrics import METRICS, metrics_text
 from rds_monitor.db.standing import Availability, standing_of
 from rds_monitor.watch.pages import Bar, bars_of, overview, picture, station_page, worst_first, write_pages
-from rds_monitor.watch.records import AlarmChanged, PartGrew, PartKey, PartOpened, PartTold, Records
+from rds_monitor.watch.records import (
+    AlarmChanged,
+    PartGrew,
+    PartKey,
+    PartOpened,
+    PartTold,
+    Records,
+    StateSeen,
+)
 from rds_monitor.watch.times import Timing
 
 UTC = 1795748400.0
@@ -179,12 +187,25 @@ def test_pages_of_a_database(tmp_path: Path) -> None:
     assert alarms == [*lasting, "pi", "2026-11-27 02:58:30", "2026-11-27 02:58:45", "PI D319"]
     assert changes == ["2026-11-27 02:01:00", "PS", "none", "2026-11-27 02:00:00", "PS", "ALPHA"]
     assert "3 starts of the receiver" in page and "24 h ago</span><span>12 h ago</span><span>now" in page
-    assert 'href="Be%20ta.html"' in (tmp_path / "pages" / "index.html").read_text()
+    index = (tmp_path / "pages" / "index.html").read_text()
+    assert 'href="Be%20ta.html"' in index
+    for text in (page, index):
+        assert '<meta http-equiv="refresh" content="60">' in text and "2026-11-27 03:00:00 UTC</time>" in text
     begin = time.process_time()
     write_pages(
         str(tmp_path / "pages"), {f"S{n}": state() for n in range(30)}, {}, {}, UTC, records.database, 60
     )
     assert time.process_time() - begin < 10
+    records.close()
+
+
+def test_a_page_of_a_station_that_left_is_removed_once(tmp_path: Path) -> None:
+    records = filled(tmp_path)
+    records.write([StateSeen("Gone", UTC, state())])
+    (tmp_path / "Gone.html").touch()
+    for _ in range(2):
+        write_pages(str(tmp_path), {}, {}, {}, UTC, records.database, 60)
+        assert not (tmp_path / "Gone.html").exists()
     records.close()
 
 

@@ -65,6 +65,16 @@ def test_the_first_second_corrects_the_start(speed: int) -> None:
         assert arrivals.timing == Timing(pytest.approx(BEGIN + speed * start, abs=1e-3))
 
 
+@at_each_speed
+@pytest.mark.parametrize("after, start", [(0.9, 0.1), (1.1, 0.4)])
+def test_the_start_is_corrected_for_a_second(after: float, start: float, speed: int) -> None:
+    """The first read was held up by 0.4 s, and the second one, `after` seconds later, by 0.1 s."""
+    arrivals = Arrivals(speed)
+    for came, delay in ((2, 0.4), (2 + after, 0.1)):
+        arrivals.take(int(speed * (came - delay) * RATE), BEGIN + speed * came)
+    assert arrivals.timing == Timing(pytest.approx(BEGIN + speed * start, abs=1e-3))
+
+
 def test_of_a_second_the_read_with_the_least_delay_counts() -> None:
     """Of two that came before they can have been sent, by a second and by half of one."""
     arrivals = Arrivals()
