@@ -135,7 +135,8 @@ def test_the_worst_first() -> None:
     bad, good = ({"sent": 10, "valid": valid, "corrected": 0} for valid in (1, 10))
     states = {"a": state(), "b": state(minute=bad), "c": state(alarms={"ta": ""})}
     states.update(d=state(alarms={"no_rds": ""}), f=state(minute=good), e=state(minute=None))
-    assert worst_first(states) == ["d", "c", "b", "a", "e", "f"]
+    states["g"] = state(minute={"sent": 1000, "valid": 995, "corrected": 0})
+    assert worst_first(states) == ["d", "c", "b", "a", "g", "e", "f"]
 
 
 def test_an_outage_is_seen_in_a_day() -> None:

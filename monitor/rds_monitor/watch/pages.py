@@ -111,9 +111,7 @@ def _page(title: str, body: str, refresh: int) -> str:
     )
 
 
-def _time(utc: Optional[float]) -> str:
-    if utc is None:
-        return "–"
+def _time(utc: float) -> str:
     text = utc_text(utc)
     return f'<time datetime="{text}">{text[:10]} {text[11:19]} UTC</time>'
 
