@@ -10,6 +10,7 @@ from collections import deque
 from pathlib import Path
 from types import BuiltinFunctionType, FunctionType, ModuleType, SimpleNamespace
 from typing import Any, List, Optional, Sequence, cast
+from unittest import mock
 
 import pytest
 
@@ -26,7 +27,7 @@ from rds_monitor.watch.live import Append
 from rds_monitor.watch.loop import Hooks
 from rds_monitor.watch.receiver import Keeper, Process
 from rds_monitor.watch.records import Records, RunBegan
-from rds_monitor.watch.verdict import Limits
+from rds_monitor.watch.verdict import Limits, Verdict
 from rds_monitor.watch.writer import Batch, Writer, WriterThread
 from test_watch_network import ALPHA, TABLE, network
 
@@ -61,6 +62,17 @@ def test_a_pipe_of_a_megabyte() -> None:
     assert fcntl.fcntl(process._out.fileno(), get_pipe_size) == 1 << 20
     process.kill()
     process.close()
+
+
+def test_a_receiver_that_is_stopped_for_good() -> None:
+    """Its reason is the one that was given, not how the command ended."""
+    it = mock.Mock(**{"read.return_value": b"", "ended.return_value": None})
+    keeper = Keeper(["it"], 10.0, lambda words, through: it, 0.0)
+    keeper.read(0.0)
+    keeper.stop(1.0, "the watch ended")
+    it.ended.return_value = "was ended by SIGTERM"
+    assert [keeper.read(now) for now in (1.5, 99.0)] == [None, b""]
+    assert (keeper.reason, keeper.starts, keeper.is_running) == ("the watch ended", 1, False)
 
 
 class Brief(Process):
@@ -179,17 +191,49 @@ def test_a_minute_without_news(
     quiet: float, runs: Optional[float], told: str, monkeypatch: pytest.MonkeyPatch
 ) -> None:
     """By how long ago the station was looked at, and for how long a watch has run, if it does."""
-    minute = {"sent": 2740, "valid": 2740, "corrected": 0}
-    state = {"utc": 1000.0, "session_utc": 1.0, "last_group_utc": 999.0, "held": {}, "alarms": {}}
-    known = (1000.0, {**state, "minute": minute}, "", Availability(0, 0, 0, 0))
-    monkeypatch.setattr(asked, "known_of", lambda path, name: known)
     monkeypatch.setattr(asked, "runs_for", lambda folder: runs)
-    monkeypatch.setattr(asked.time, "time", lambda: 1000.0 + quiet)
     try:
-        said = asked.judge_station(["it.db"], "A", Limits(90, 50, 10, 60), None, []).said
+        said = judged(monkeypatch, quiet).said
     except Fault as fault:
         said = [str(fault)]
     assert told in said[0]
+
+
+def judged(monkeypatch: pytest.MonkeyPatch, quiet: float, disk: str = "", **changes: Any) -> Verdict:
+    """By a good state, with changes, of `quiet` seconds ago."""
+    minute = {"sent": 2740, "valid": 2740, "corrected": 0}
+    state = {"utc": 1000.0, "session_utc": 1.0, "last_group_utc": 999.0, "held": {}, "alarms": {}}
+    known = (1000.0, {**state, "minute": minute, **changes}, disk, Availability(1, 2, 3, 4))
+    monkeypatch.setattr(asked, "known_of", lambda path, name: known)
+    monkeypatch.setattr(asked.time, "time", lambda: 1000.0 + quiet)
+    return asked.judge_station(["it.db"], "A", Limits(90, 50, 10, 60), None, [])
+
+
+@pytest.mark.parametrize(
+    "changes, told, status",
+    [
+        ({}, [], 0),
+        ({"session_utc": None, "reason": "it ended"}, ["no session: it ended"], 0),
+        (
+            {"session_utc": None, "reason": "", "alarms": {"ta": "on", "pi": "D319"}},
+            ["pi: D319", "ta: on"],
+            2,
+        ),
+        ({"alarms": {"ta": "on"}}, ["ta: on"], 1),
+    ],
+)
+def test_why_a_station_is_not_good(
+    changes: Any, told: List[str], status: int, monkeypatch: pytest.MonkeyPatch
+) -> None:
+    """First come its alarms by name, or without one the reason; and last the seconds of a day."""
+    verdict = judged(monkeypatch, 0.0, **changes)
+    assert verdict.said[:-2] == told and verdict.status == status
+    assert verdict.data[-4:] == ["received=1s", "noise=2s", "down=3s", "unknown=4s"]
+
+
+def test_a_full_disk_is_all_that_is_told(monkeypatch: pytest.MonkeyPatch) -> None:
+    verdict = judged(monkeypatch, 100.0, disk="no room")
+    assert (verdict.said, verdict.data, verdict.status) == (["disk: no room"], [], 1)
 
 
 def test_commands_in_their_order(tmp_path: Path, monkeypatch: pytest.MonkeyPatch) -> None:

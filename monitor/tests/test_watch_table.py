@@ -150,7 +150,10 @@ def test_soft_decisions_of_the_decoder(monkeypatch: pytest.MonkeyPatch, capsys: 
         ("[keep]\ncompress = 1\n" + stations(*ALPHA), "keep.compress: true or false is needed"),
         ('[keep]\nlistings_days = "60"\n' + stations(*ALPHA), "keep.listings_days"),
         ('[defaults]\nname = "a"\n' + stations(*ALPHA), "[defaults]"),
+        ("[[station]]", "the station number 1 has no 'name'"),
         ("[[receiver]]\n" + stations(*ALPHA), "the receiver number 1 has no 'name'"),
+        ('[[receiver]]\nname = "r"\n' + stations(*ALPHA), "receiver 'r' has no 'command'"),
+        ('[[receiver]]\nname = "r"\ncommand = ["a"]\n' + stations(*ALPHA), "receiver 'r' has no 'raw'"),
     ],
 )
 def test_errors(text: str, fault: str) -> None:
