@@ -18,15 +18,20 @@ from conftest import rds
 from load import Endless
 from network import START, Air, Plan, Simulated
 from rds_monitor.content.decoder import Event
-from rds_monitor.db.parts import Contents, Part
+from rds_monitor.db.parts import Contents, MinuteRow, Part, Told
 from rds_monitor.db.standing import Availability
+from rds_monitor.measures.errors import Interval
 from rds_monitor.rows.clock import Clock
 from rds_monitor.rows.items import Fault
+from rds_monitor.signal.receiver import Strength
 from rds_monitor.watch import asked, loop, records, service, writer
-from rds_monitor.watch.live import Append
+from rds_monitor.watch.live import Append, LiveSession
 from rds_monitor.watch.loop import Hooks
 from rds_monitor.watch.receiver import Keeper, Process
 from rds_monitor.watch.records import Records, RunBegan
+from rds_monitor.watch.station import Station
+from rds_monitor.watch.table import table_of
+from rds_monitor.watch.times import Timing
 from rds_monitor.watch.verdict import Limits, Verdict
 from rds_monitor.watch.writer import Batch, Writer, WriterThread
 from test_watch_network import ALPHA, TABLE, network
@@ -231,6 +236,12 @@ def test_why_a_station_is_not_good(
     assert verdict.data[-4:] == ["received=1s", "noise=2s", "down=3s", "unknown=4s"]
 
 
+def test_a_group_that_ended_after_the_look_has_no_age() -> None:
+    state = {"utc": 1000.0, "last_group_utc": 1000.4, "held": {"ps": "  "}, "minute": None}
+    seen = asked.seen_of(state)
+    assert (seen.age, seen.valid, seen.names) == (0.0, None, [])
+
+
 def test_a_full_disk_is_all_that_is_told(monkeypatch: pytest.MonkeyPatch) -> None:
     verdict = judged(monkeypatch, 100.0, disk="no room")
     assert (verdict.said, verdict.data, verdict.status) == (["disk: no room"], [], 1)
@@ -295,6 +306,64 @@ def test_the_last_minute_of_a_station(tmp_path: Path) -> None:
     assert (state["sent"], state["valid"], state["corrected"]) == (sent, valid, corrected)
     assert 0 < corrected != lost
     one.end()
+
+
+def station_of(keeper: Any) -> Station:
+    (one,) = table_of('[[station]]\nname = "Alpha"\ncommand = ["it"]\n').stations
+    return Station(one, keeper, mock.Mock(), 1.0, 100.0, mock.Mock())
+
+
+@pytest.mark.parametrize("quiet", [5.0, 10.0, 10.1])
+def test_the_age_of_a_valid_block_outlasts_the_watch(quiet: float) -> None:
+    """However long no byte came, of which a burst may bring those of ten seconds."""
+    one = station_of(mock.Mock(last_byte=100.0, patience=10.0))
+    one.resume({}, {"quiet": quiet, "age": 20.0}, 0.0)
+    assert (one.keeper.last_byte, one._age(100.0)) == (100.0 - quiet, pytest.approx(20.0))
+
+
+@pytest.mark.parametrize("utc, names", [(110.0, ["A", "B", "C"]), (110.1, ["B", "C"]), (500.0, ["C"])])
+def test_the_names_of_a_minute(utc: float, names: List[str]) -> None:
+    """The one that held when the minute began is one of them."""
+    one = station_of(mock.Mock(reason=""))
+    one._session = mock.MagicMock()
+    changes = [
+        Event(int(at * 1187.5), 1, "ps", name, None, f" {name}")
+        for at, name in ((0, "A"), (50, "B"), (100, "C"))
+    ]
+    one._take(Told([], [], [], changes, []), Timing(0.0))
+    assert one.state(utc)["names"] == names
+
+
+def test_what_a_station_counts() -> None:
+    """All blocks, but per cent of whole minutes only; and the last minute, and the last clock time that is known."""
+    one = station_of(mock.Mock(reason=""))
+    one.alarms = mock.MagicMock()
+    minutes = [
+        MinuteRow(0, Interval(0, 71250, 100, 70, 15, 10, 5), {}, {}, -0.5, 0),
+        MinuteRow(1, Interval(71250, 142499, 99, 60, 20, 12, 7), {}, {}, None, 0),
+    ]
+    one._take(Told(minutes, [], [], [], []), Timing(1000.0))
+    state = one.state(2000.0)
+    assert one.alarms.take.call_args[0][:2] == ([], [30.0])
+    assert state["blocks"] == {"valid": 130, "corrected": 35, "lost": 22, "missing": 12}
+    assert state["minute"] == {"utc": 1060.0, "sent": 99, "valid": 60, "corrected": 20}
+    assert state["clock_s"] == -0.5
+
+
+def test_the_strength_of_the_last_two_minutes() -> None:
+    decoder = mock.Mock(place=0)
+    session, found = LiveSession("Alpha", 1.0, decoder, 0.0), []
+    for decoder.place, level in (
+        (0, -10.0),
+        (71249, -10.0),
+        (71250, -20.0),
+        (150000, -30.0),
+        (285000, -40.0),
+    ):
+        session.take(b"", Strength(level, None))
+        found.append(session.strength())
+    # Means by power, such as of 0.1 twice and 0.01.
+    assert found == [Strength(level, None) for level in (-10.0, -10.0, -11.5, -22.6, -32.6)]
 
 
 def entries(root: Any, outside: Any) -> int:

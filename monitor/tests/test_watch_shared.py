@@ -296,6 +296,20 @@ def test_a_station_that_left_while_others_go_on_does_not_run() -> None:
     assert found == [[False, True], [True, True]]
 
 
+def test_lines_wait_for_their_stations() -> None:
+    """They are read once at a moment. A line that is cut goes on at the next one, but not in another run."""
+    shared = SharedReceiver(
+        table_of(receiver("north", "centre = 97.0") + stations(*STATION)).receivers[0], 1.0, mock.Mock(), 0.0
+    )
+    one, other = b'{"frequency":1,"bits":""}\n', b'{"frequency":2,"bits":""}\n'
+    given = [one + b'{"frequency":3,}\n' + other[:9], other[9:] + one[:20], None, one + one]
+    setattr(shared, "keeper", mock.Mock(**{"read.side_effect": given}))
+    taps = [shared.tap(hertz, 0.0) for hertz in (1, 2)]
+    found = [[tap.read(now) for tap in taps] for now in (1.0, 2.0, 3.0, 4.0)]
+    assert found == [[one, b""], [b"", other], [None, None], [one + one, b""]]
+    assert [tap.last_byte for tap in taps] == [4.0, 2.0]
+
+
 @pytest.mark.parametrize(("centre", "warns"), [(97.35, True), (97.3, False)])
 def test_a_spike_in_a_channel(tmp_path: Path, centre: float, warns: bool) -> None:
     path = tmp_path / "stations.toml"
