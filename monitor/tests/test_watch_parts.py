@@ -308,6 +308,28 @@ def test_the_last_minute_of_a_station(tmp_path: Path) -> None:
     one.end()
 
 
+@pytest.mark.parametrize("count, left", [(2, "a- b4 a3 b3 b3"), (3, "a- a3 b3 b3 b3")])
+def test_the_oldest_rows_of_a_station_are_given_up(
+    count: int, left: str, monkeypatch: pytest.MonkeyPatch
+) -> None:
+    """Those of one that has more than ten bytes of them, in any hour. That an hour ends is told nevertheless."""
+    monkeypatch.setattr(loop, "MOST_WAITING", 10)
+    appends = [
+        Append("a/1", b"", True),
+        Append("a/1", b"8 bytes:"),
+        Append("b/1", b"four"),
+        Append("a/2", b"..3"),
+    ]
+    said: List[str] = []
+    one = SimpleNamespace(
+        _appends=[*appends, *[Append("b/2", b"..3")] * count], _say=lambda priority, text: said.append(text)
+    )
+    loop.Watch._give_up_most(cast(Any, one))
+    assert " ".join(f"{path[0]}{len(data) or '-'}" for path, data, _ in one._appends) == left
+    lost = "bytes of rows are given up: they could not be written"
+    assert said == [f"a: 8 {lost}", f"b: 4 {lost}"][: count - 1]
+
+
 def station_of(keeper: Any) -> Station:
     (one,) = table_of('[[station]]\nname = "Alpha"\ncommand = ["it"]\n').stations
     return Station(one, keeper, mock.Mock(), 1.0, 100.0, mock.Mock())
