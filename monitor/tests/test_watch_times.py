@@ -138,6 +138,16 @@ def test_when_the_pace_changes(factor: float, speed: int) -> None:
     assert [since[second] for second in (10, 11, 31, 32, 55)] == [None, 1, 1, 2, 25]
 
 
+@at_each_speed
+def test_a_read_of_each_second_counts(speed: int) -> None:
+    """Of eight in a second; and before the first one no bit is ahead."""
+    arrivals = Arrivals(speed)
+    assert arrivals.ahead == 0
+    for eighth in range(1, 161):
+        arrivals.take(int(speed * eighth / 8 * RATE), BEGIN + speed * eighth / 8)
+    assert [utc - BEGIN for utc, _ in arrivals.reads] == [speed * (second + 0.125) for second in range(20)]
+
+
 def test_a_pace_by_two_reads() -> None:
     arrivals = Arrivals()
     for second in (1, 11):
