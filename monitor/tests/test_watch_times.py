@@ -63,6 +63,16 @@ def test_the_first_second_corrects_the_start(speed: int) -> None:
     ):
         arrivals.take(speed * place, BEGIN + speed * came)
         assert arrivals.timing == Timing(pytest.approx(BEGIN + speed * start, abs=1e-3))
+    assert arrivals.ahead == pytest.approx(speed * (5000 / RATE - 0.6 - 1.3), abs=0.01)
+
+
+def test_a_start_that_jumped_is_not_corrected() -> None:
+    arrivals = Arrivals()
+    arrivals.take(int(RATE), BEGIN + 1.4)
+    arrivals.jump(0.5)
+    arrivals.take(int(1.6 * RATE), BEGIN + 2.2)
+    assert arrivals.timing == Timing(pytest.approx(BEGIN + 0.9, abs=2e-3))
+    assert arrivals.ahead == pytest.approx(0.3, abs=2e-3)
 
 
 @at_each_speed
