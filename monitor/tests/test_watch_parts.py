@@ -16,6 +16,7 @@ import pytest
 
 from conftest import rds
 from load import Endless
+from made import run
 from network import START, Air, Plan, Simulated
 from rds_monitor.content.decoder import Event
 from rds_monitor.db.parts import Contents, MinuteRow, Part, Told
@@ -24,7 +25,7 @@ from rds_monitor.measures.errors import Interval
 from rds_monitor.rows.clock import Clock
 from rds_monitor.rows.items import Fault
 from rds_monitor.signal.receiver import Strength
-from rds_monitor.watch import asked, loop, records, service, writer
+from rds_monitor.watch import asked, check, loop, records, service, writer
 from rds_monitor.watch.live import Append, LiveSession
 from rds_monitor.watch.loop import Hooks
 from rds_monitor.watch.receiver import Keeper, Process
@@ -245,6 +246,40 @@ def test_a_group_that_ended_after_the_look_has_no_age() -> None:
 def test_a_full_disk_is_all_that_is_told(monkeypatch: pytest.MonkeyPatch) -> None:
     verdict = judged(monkeypatch, 100.0, disk="no room")
     assert (verdict.said, verdict.data, verdict.status) == (["disk: no room"], [], 1)
+
+
+@pytest.mark.parametrize(
+    "error, told",
+    [
+        (OSError(5, "Input/output error", "it.csv"), "it.csv: Input/output error"),
+        (OSError(5, "Input/output error"), "reading: Input/output error"),
+        (OSError("cut"), "reading: cut"),
+        (ValueError("bad"), "ValueError: bad"),
+    ],
+)
+def test_a_fault_while_a_file_is_judged(error: Exception, told: str, monkeypatch: pytest.MonkeyPatch) -> None:
+    monkeypatch.setattr(check, "_run", mock.Mock(side_effect=error))
+    done = run("check", "it.csv")
+    assert (done.status, done.out) == (3, f"RDS UNKNOWN - {told}\n")
+
+
+@pytest.mark.parametrize(
+    "words, is_listing, most", [((), False, 297), (("--soft",), False, 2376), ((), True, 22401)]
+)
+def test_how_much_of_a_growing_file_is_read(
+    words: Sequence[str],
+    is_listing: bool,
+    most: int,
+    station_listing: bytes,
+    tmp_path: Path,
+    monkeypatch: pytest.MonkeyPatch,
+) -> None:
+    """Of two seconds: 2375 bits, or symbols, or a listing's rows at most, and a byte more."""
+    ends = mock.Mock(side_effect=lambda parts, most, cut_line: parts)
+    monkeypatch.setattr(check, "_ends", ends)
+    (tmp_path / "it").write_bytes(station_listing if is_listing else bytes(9000))
+    run("check", "--last", 2, *words, tmp_path / "it")
+    assert ends.call_args[0][1:] == (most, is_listing)
 
 
 def test_commands_in_their_order(tmp_path: Path, monkeypatch: pytest.MonkeyPatch) -> None:
