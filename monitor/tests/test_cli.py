@@ -21,6 +21,7 @@ from conftest import COMMAND, PROGRAM, STATION, TOP, monitor, ran, rds
 from made import damaged, on_a_terminal, peak_memory, run, said
 from rds_monitor import cli
 from rds_monitor.rows import inputs
+from rds_monitor.rows.items import Rules
 from rds_monitor.watch import verdict
 
 MONITOR = TOP / "monitor"
@@ -69,6 +70,17 @@ def test_command_lines_that_are_none(row: str) -> None:
     words, fault = re.split(" {2,}", row)
     done = run(*words.split())
     assert done.status == 2 and fault in done.err and done.out == "", done
+
+
+def test_bounds_of_options() -> None:
+    """The longest recording, positions of twelve digits, and the default of --of."""
+    assert inputs.bits_of(str(2**36)) == 2**36
+    assert inputs.gaps_of("1-2,999999999998-999999999999")[1] == (999999999998, 999999999999)
+    for make, text in ((inputs.bits_of, str(2**36 + 1)), (inputs.gaps_of, "1-1000000000000")):
+        with pytest.raises(argparse.ArgumentTypeError):
+            make(text)
+    errors = next(command for command in cli.COMMANDS if command.name == "errors")
+    assert inputs.rules_of(cli.parser_of(errors).parse_args(["--share", "3"])) == Rules(2, 3, 3, 64)
 
 
 # Options that rds refuses, with its error.

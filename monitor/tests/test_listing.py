@@ -19,7 +19,7 @@ from hypothesis import HealthCheck, given, settings, strategies as st
 
 from conftest import encode, rds
 from made import acquired_row, block, damaged, group_row, joined, listing, lock, loss_row, read, run, said
-from rds_monitor.rows import extent, listing as of_listing
+from rds_monitor.rows import extent, listing as of_listing, opening, recording
 from rds_monitor.rows.heads import HEADER, is_known, is_listing
 from rds_monitor.rows.items import BLOCKS, GROUP, VALID, Fault, Reading, Rows, Rules, totals_of
 from rds_monitor.rows.listing import Listing, text_of, totals_text
@@ -101,7 +101,11 @@ def test_bits_gaps_and_hexadecimal_text(station: bytes, tmp_path) -> None:
     assert written(open_source(str(path), Reading(hex=True, bits=0))) == rds("list")
     for text, options, fault in (
         (station.hex(), {"bits": 300000}, "BitsPastBytes"),
-        (station.hex(), {"gaps": [(0, 300000)]}, "BadGaps"),
+        (
+            station.hex(),
+            {"gaps": [(0, 5), (6, 300000)]},
+            "BadGaps: a gap ends at 300000, past the 200000 bits",
+        ),
         (station.hex(), {"rules": Rules(6)}, "BurstRange"),
         ("123", {}, "refused 11 HexText"),
         ("12 3x", {}, "refused 11 HexText"),
@@ -109,6 +113,18 @@ def test_bits_gaps_and_hexadecimal_text(station: bytes, tmp_path) -> None:
         path.write_text(text)
         with pytest.raises(Fault, match=fault):
             list(open_source(str(path), Reading(hex=True, **options)).chunks())
+
+
+@pytest.mark.usefixtures("decoder")
+@pytest.mark.parametrize("is_hex", [False, True])
+def test_a_recording_in_small_chunks(is_hex: bool, station: bytes, tmp_path, monkeypatch) -> None:
+    """Its last bit is in a later chunk, some chunks have an odd number of digits, and a gap ends with it."""
+    monkeypatch.setattr(opening, "CHUNK", 4096)
+    monkeypatch.setattr(recording, "CHUNK", 997)
+    (tmp_path / "it").write_bytes(station.hex().encode() if is_hex else station)
+    how = Reading(hex=is_hex, bits=100003, gaps=[(104, 105), (99000, 100003)])
+    wanted = rds("list", "--bits", 100003, "--gaps", "104-105,99000-100003", data=station)
+    assert written(open_source(str(tmp_path / "it"), how)) == wanted
 
 
 # ---- other hands
@@ -149,6 +165,7 @@ group,26,0,A,A:D393,B:0548,C:E0CD,D:5041\x20          its block 4 is no block
 group;26;0;A;A:D393;B:0548;C:E0CD;D:5041              it has 1 fields
 "group","26","0","A","A:D393","B:0548","C:E0CD","D:5041" it begins with none
 acquired,26,5,-,-,-,-,-                               no row of an acquisition
+acquired,26,0,-,-,-,-,-                               no row of an acquisition
 acquired,24,1,-,-,-,-,-                               no row of an acquisition
 acquired,26,1,-,-,-,-,x                               no row of an acquisition
 lost,26,-,-,-,-,-,1                                   no row of a loss
@@ -256,6 +273,9 @@ def test_places_that_go_back() -> None:
     assert refused(listing(rows, False), unfinished_ok=True).startswith("row 4: its place goes back")
     overlapping = [group_row(0, WORDS), group_row(103, WORDS)]
     assert refused(listing(overlapping, False), unfinished_ok=True).startswith("row 2: its place goes back")
+    # Sync begins with the last bit of a block: a group begins at most 25 bits before.
+    early = [acquired_row(51, 1), group_row(25, WORDS)]
+    assert refused(listing(early, False), unfinished_ok=True).startswith("row 2: its place goes back")
 
 
 @pytest.mark.parametrize("gone", [0, 1, 2, 60, -2, -1])
@@ -292,6 +312,13 @@ def test_the_length_of_the_recording(station_listing: bytes) -> None:
     few = listing(lock(0, [(0xD318, 0x0548, 0xE0CD, 0x4E4F)] * 5, lost=False))
     assert len(read(few, length=71250 + 572)) == 6 and "is wrong" in refused(few, length=71250 + 573)
     assert not len(read(listing([]), length=10**6))
+    assert len(read(few, length=520)) == 6 and "a row is of bit 519, past the 519" in refused(few, length=519)
+
+
+def test_the_last_bit_that_a_listing_may_have() -> None:
+    last, past = (listing([group_row(2**36 - bits, WORDS)], False) for bits in (104, 103))
+    assert len(read(last, unfinished_ok=True)) == 1
+    assert f"a row is of bit {2**36}, past the 2^36 bits" in refused(past, unfinished_ok=True)
 
 
 def test_the_extent_of_a_listing_and_of_a_part() -> None:

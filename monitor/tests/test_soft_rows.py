@@ -111,6 +111,13 @@ def test_a_recording_and_its_listing_are_the_same_rows(rules: Rules, options: st
     assert written(source) == rds("list", "--soft", *options.split(), data=SYMBOLS)
 
 
+@pytest.mark.parametrize("margin", [1, 127])
+def test_the_least_and_the_greatest_margin(margin: int, path: Path) -> None:
+    listed = rds("list", "--soft", "--margin", margin, data=SYMBOLS)
+    of_listing = output("errors", "--length", len(SYMBOLS) - 1, data=listed)
+    assert output("errors", "--soft", "--margin", margin, path) == of_listing
+
+
 @pytest.mark.parametrize("bits", [0, 1, 26, 5000, len(SYMBOLS) - 1])
 def test_a_number_of_bits(bits: int, path: Path) -> None:
     gaps, words_ = ([(30, 40)], ["--gaps", "30-40"]) if bits > 40 else ([], [])
