@@ -2,6 +2,7 @@
 
 from __future__ import annotations
 
+import argparse
 import datetime
 from typing import List, Sequence
 
@@ -12,7 +13,7 @@ from hypothesis import given, settings, strategies as st
 from conftest import STATION
 from made import group_row, listing, run, said
 from rds_monitor.measures.clock import Tick, fit, go_together, slope_of, stretches_of, ticks_of
-from rds_monitor.rows.clock import Clock, start_of, utc_text, utc_texts
+from rds_monitor.rows.clock import Clock, number_of, rate_of, start_of, utc_text, utc_texts
 from rds_monitor.rows.items import Fault
 
 STARTS = """
@@ -46,6 +47,19 @@ def test_starts_that_are_none(start: str) -> None:
 def test_rates_that_are_none(rate: str) -> None:
     done = run("errors", f"--rate={rate}")
     assert done.status == 2 and "1187.5 within a tenth" in done.err
+
+
+def test_numbers_at_their_bounds() -> None:
+    assert [rate_of("1068.1"), rate_of("1306.9")] == [1068.1, 1306.9]
+    assert number_of("999999999999") == 10**12 - 1 and number_of("0.123456789") == 0.123456789
+    assert start_of("1970-01-01T00:00:01.123456Z") == pytest.approx(1.123456)
+    for make, text in (
+        (number_of, "1000000000000"),
+        (number_of, "0.1234567891"),
+        (start_of, "1970-01-01T00:00:01.1234567Z"),
+    ):
+        with pytest.raises(argparse.ArgumentTypeError):
+            make(text)
 
 
 def test_the_last_start_has_times_to_the_end_of_the_longest_recording() -> None:

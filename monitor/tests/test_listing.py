@@ -232,7 +232,9 @@ def test_beginnings_that_say_what_an_input_is(head: bytes) -> None:
 
 
 def test_a_row_without_an_end() -> None:
-    assert "a row has no end within 4096 bytes" in refused(b"group," + b"0" * 10**6, unfinished_ok=True)
+    for size in (4097, 10**6):
+        assert "a row has no end within 4096 bytes" in refused(b"0" * size, unfinished_ok=True)
+    assert not len(read(b"0" * 4096, unfinished_ok=True))
 
 
 def test_a_file_that_cannot_be_read(tmp_path) -> None:
@@ -266,6 +268,8 @@ def test_sessions_are_told_apart(station_listing: bytes) -> None:
         assert all((joined(chunks) == whole).all() for chunks in found.values())
     with pytest.raises(Fault, match="does not end in its totals"):
         list(source_of(rows * 2, sessions=True).chunks())
+    third = listing(3 * lock(26, [WORDS] * 2, lost=False) + [group_row(26, WORDS)], False)
+    assert refused(third, sessions=True, unfinished_ok=True).startswith("row 10: its place goes back")
 
 
 def test_places_that_go_back() -> None:
@@ -284,7 +288,8 @@ def test_a_row_that_is_missing(gone: int) -> None:
     whole = listing(rows)
     del rows[gone]
     text = text_of(numpy.concatenate(rows)) + whole[whole.index(b"total,") :]
-    assert "rows are missing" in refused(text)
+    fault = refused(text)
+    assert "rows are missing" in fault and "(--unfinished accepts a part)" in fault
     # In a part rows may be missing, and it goes on.
     assert len(read(text, unfinished_ok=True)) == len(rows)
 
@@ -292,7 +297,7 @@ def test_a_row_that_is_missing(gone: int) -> None:
 def test_a_row_too_many() -> None:
     text, other = (listing(lock(26, [WORDS] * count, lost=False)) for count in (5, 4))
     both = text[: text.index(b"total,")] + other[other.index(b"total,") :]
-    assert "rows are missing or too many" in refused(both, unfinished_ok=True)
+    assert refused(both, unfinished_ok=True).endswith("rows are missing or too many")
 
 
 def test_a_listing_without_totals(station_listing: bytes) -> None:
