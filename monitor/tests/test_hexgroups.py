@@ -25,6 +25,7 @@ from sent import group, name, text
 def read(data: bytes) -> Any:
     """The source of lines, and its rows."""
     source = GroupLines(io.BytesIO(data), b"")
+    assert source.length is source.totals is source.start is None
     return source, numpy.concatenate(list(source.chunks()))
 
 

@@ -17,12 +17,16 @@ import numpy
 import pytest
 from conftest import encode, monitor, rds
 from made import peak_memory
+from rds_monitor.capture.picture import picture_of
+from rds_monitor.capture.stations import HEAD
 from rds_monitor.page.html import page_of, told_of
 from rds_monitor.page.line import COUNTS, Counted, Lanes, TimeLine, bad_percent, encoded, said
 from rds_monitor.page.overview import Span, last_minute, line_of, polyline, tile_of
 from rds_monitor.page.report import MOST_STORED, RecordedLine
 from rds_monitor.page.stored import MAGIC, Stored, StoredStation
 from rds_monitor.rows.clock import Clock
+from rds_monitor.signal.found import Spectrum
+from rds_monitor.signal.several import Tuning
 
 from years import MINUTES, MIX, OUTAGE, RATE, make_year
 
@@ -198,6 +202,34 @@ def test_the_last_minute_of_steps(step: int, count: int) -> None:
     assert last_minute([Span(0, step, valid[:2] * 0 + 100, valid[:2])]) == (50.0 if count > 1 else 0.0)
     short = [Span(0, step, numpy.pad(valid * 0 + 100, 1), numpy.pad(valid, 1))]
     assert last_minute(short) == last_minute([*short, short[0]._replace(sent=valid * 0)]) == 0.0
+
+
+def drawn(power: Any) -> str:
+    """The picture of a spectrum with a station, 380 kHz from its begin."""
+    offsets = numpy.linspace(-48e4, 47e4, len(power))
+    rows = [("97.9M", "-9.0", "20.0", "D317", "-")]
+    return picture_of(Spectrum(power, offsets), Tuning(98e6, 960000), [-1e5], HEAD, rows)
+
+
+def points_of(picture: str) -> List[str]:
+    return re.findall(r'<polyline points="([^"]*)"', picture)[0].split()
+
+
+def test_places_in_the_picture_of_a_spectrum() -> None:
+    """Its 1200 by 320 are 950 kHz by 10 dB, of which 0 dB is at the bottom."""
+    picture = drawn(numpy.ones(96))
+    assert re.findall(r'<text x="2" y="([\d.]+)">(-?\d+) dB', picture) == [("318.0", "0"), ("11.0", "10")]
+    assert '<text x="480.0" y="332" text-anchor="middle">97.9M</text>' in picture
+    assert '<text x="483.0" y="12">D317</text>' in picture
+    assert points_of(picture) == [f"{1200 * n / 95:.1f},320.0" for n in range(96)]
+
+
+def test_means_of_a_spectrum_and_silence() -> None:
+    """Of 1 and 3 the mean is 3.01 dB. No power is drawn as -200 dB."""
+    points = points_of(drawn(numpy.array([1.0, 3.0] * 602)))
+    assert len(points) == 602 and {point.split(",")[1] for point in points} == {"223.7"}
+    assert len(points_of(drawn(numpy.ones(1200)))) == 1200
+    assert re.findall(r">(-?\d+) dB", drawn(numpy.zeros(96))) == ["-200", "-190"]
 
 
 @needs_d3

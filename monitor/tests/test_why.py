@@ -22,6 +22,7 @@ def why(data: bytes, *words: str) -> Tuple[int, str]:
 CASES = [
     (b"\x1b[2J", "encode", "12 GroupText", ["line 1: \\x1b[2J"]),
     (b"12\n3g", "scan --hex", "11 HexText", ["byte 5 (line 2, column 2) is 0x67, neither a digit nor blank"]),
+    (b"\n3g", "scan --hex", "11 HexText", ["byte 3 (line 2, column 2) is 0x67, neither a digit nor blank"]),
     (b"1 2\n3", "list --hex", "11 HexText", ["there are 3 digits, an odd number"]),
     (b"0000", "totals --gaps 1-2,9-9", "16 BadGaps", ["gap 2, 9-9, is empty"]),
     (b"0000", "totals --gaps 0-5,5-32,99-99", "16 BadGaps", ["gap 3, 99-99, is empty"]),
@@ -95,6 +96,13 @@ def test_no_blocks_with_offset_word_e(data: bytes) -> None:
 def test_long_hexadecimal_text_is_cut_between_two_digits() -> None:
     text = b"1\n" + b"0" * ((1 << 20) + 1)
     assert why(text, "list", "--hex") == (0, "")
+
+
+def test_the_first_four_million_bits_are_looked_at() -> None:
+    """2^22 bits are 2^19 bytes, or 2^20 hexadecimal digits."""
+    data = with_blocks_e(4).ljust((1 << 19) + 9, b"\0")
+    for given, words in ((data, ["list"]), (data.hex().encode(), ["list", "--hex"])):
+        assert why(given, *words)[1].startswith(f"160 of the blocks in the first {1 << 22} bits have")
 
 
 def test_no_program() -> None:
