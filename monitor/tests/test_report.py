@@ -335,10 +335,20 @@ def test_sessions_of_a_stream_are_on_one_line_of_time() -> None:
     (begin, end, seconds, sent, valid), second = told["sessions"]
     assert (begin, end) == (0, seconds) and abs(told["end"] - 2 * end) < 0.002
     assert second == [end, told["end"], seconds, sent, valid] and told["totals"]["sent"] == 2 * sent
+    assert told["name"] == "standard input" and [row[0] for row in told["mix"]] == [0, end]
     events = events_of(told)
     once, again = events[: len(events) // 2], events[len(events) // 2 :]
     assert once and [event[1:] for event in once] == [event[1:] for event in again]
     assert all(abs(one[0] + end - other[0]) < 0.002 for one, other in zip(once, again))
+
+
+@needs_d3
+def test_of_changes_in_a_minute_six_are_listed() -> None:
+    """Ten of PTY come in each session; the others are counted."""
+    groups = [[0xD393, 0x0408 | pty << 5 | n, 0xE0E0, 0x2020] for pty in range(10) for n in range(4)]
+    listing = rds("list", data=encode(groups))
+    told = data_of(page("--trust-length", data=listing + listing))[0]
+    assert (told["more"], [item for _, item, _ in told["events"]].count("PTY")) == (8, 12)
 
 
 @needs_d3
@@ -370,7 +380,11 @@ def test_stations_of_a_database(tmp_path: Path, station: bytes) -> None:
     events = events_of(alone)
     assert events_of(alpha)[: len(events)] == events
     assert alpha["held"]["PS"] == "PAXOLIDU" and alpha["held"]["CT"].endswith("s from the recording's clock")
-    outages = data_of(page(bad))[0]["outages"]
+    clock = data_of(page("--start", "2026-03-29T00:30:00Z", good))[0]["clock"]
+    assert [at for at, _ in clock] == [60, 120, 180]
+    worse = data_of(page(bad))[0]
+    assert [alpha["tile"]["line"][at] for at in (first, 95)] == [alone["bad_percent"], worse["bad_percent"]]
+    outages = worse["outages"]
     assert alpha["outages"] == [
         [pytest.approx(row[0] + 68400), pytest.approx(row[1] + 68400), row[2]] for row in outages
     ]
@@ -453,6 +467,8 @@ def test_pages_of_a_year(year: Path) -> None:
     april = 30 * 24 * int(OUTAGE * RATE) / RATE
     assert float(rows[3]["noise_s"]) == pytest.approx(april, abs=0.01) and rows[3]["outages"] == "720"
     assert rows[2]["longest_outage_s"] == "259200.0" and rows[3]["received_percent"] == "99.944"
+    blocks = [str(30 * 720 * 5481), str(30 * 720 * 5441), "99.27"]
+    assert [rows[3][name] for name in ("sent", "valid", "valid_percent")] == blocks
     for row, days in zip(rows, (31, 28, 31, 30, 31, 30, 31, 31, 30, 31, 30, 31)):
         seconds = sum(float(row[f"{name}_s"]) for name in ("received", "noise", "down", "unknown"))
         assert seconds == pytest.approx(86400 * days, abs=0.01)
