@@ -138,11 +138,13 @@ def test_ticks_of_one_minute() -> None:
 
 @pytest.mark.parametrize("numbers", [range(3, 20, 2), (3, 5, 14)])
 def test_the_error_of_a_rate(numbers: Sequence[int]) -> None:
-    """That of a straight line through the ticks, by numpy."""
+    """That of a straight line through the ticks, by numpy. Twice as much is told, in millionths."""
     ticks = [Tick(71250 * minute + n * n % 7 * 40, 60 * minute) for n, minute in enumerate(numbers)]
     places, times = zip(*ticks)
     line, covariance = numpy.polyfit(times, places, 1, cov=True)
-    assert slope_of([ticks]) == pytest.approx((line[0], covariance[0][0] ** 0.5))
+    error = covariance[0][0] ** 0.5
+    assert slope_of([ticks]) == pytest.approx((line[0], error))
+    assert fit(ticks).within_ppm == pytest.approx(2 * error / 1187.5 * 1e6)
 
 
 def test_clock_times_that_are_none() -> None:
