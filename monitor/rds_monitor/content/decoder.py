@@ -48,9 +48,9 @@ class Programme:
         columns = (news.at, news.key >> KIND_SHIFT, messages, news.key & (1 << POSITION_BITS) - 1, news.value)
         found: List[Tuple[Any, ...]] = list(zip(*(column.tolist() for column in columns)))
         if changes:
-            # Texts have no position. In each group they come last.
+            # Texts have no position.
             found += [(at, kind, message, None, codes) for at, kind, message, codes in changes]
-            found.sort(key=itemgetter(0))
+            found.sort(key=itemgetter(0, 1))
         places = groups.place[chosen[[at for at, *_ in found]]].tolist() if found else []
         for place, (_, kind, message, position, said) in zip(places, found):
             self._teller.place = place
