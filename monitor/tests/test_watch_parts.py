@@ -72,11 +72,11 @@ def test_a_pipe_of_a_megabyte() -> None:
 
 def test_a_receiver_that_is_stopped_for_good() -> None:
     """Its reason is the one that was given, not how the command ended."""
-    it = mock.Mock(**{"read.return_value": b"", "ended.return_value": None})
-    keeper = Keeper(["it"], 10.0, lambda words, through: it, 0.0)
+    process = mock.Mock(**{"read.return_value": b"", "ended.return_value": None})
+    keeper = Keeper(["receiver"], 10.0, lambda words, through: process, 0.0)
     keeper.read(0.0)
     keeper.stop(1.0, "the watch ended")
-    it.ended.return_value = "was ended by SIGTERM"
+    process.ended.return_value = "was ended by SIGTERM"
     assert [keeper.read(now) for now in (1.5, 99.0)] == [None, b""]
     assert (keeper.reason, keeper.starts, keeper.is_running) == ("the watch ended", 1, False)
 
