@@ -344,6 +344,18 @@ def test_redsea_has_lists_by_method_b() -> None:
     assert found == {"tuned_frequency": 89300, "same_programme": [99500], "regional_variants": [101700]}
 
 
+def test_redsea_has_the_last_of_two_lists_by_method_b() -> None:
+    found = redsea(*name(b"PAXO 318", [0xE34B, 0x0F4B, 0xE30F, 0x0F4B]))[3]["alt_frequencies_b"]
+    assert found == {"tuned_frequency": 89000, "same_programme": [95000], "regional_variants": []}
+
+
+def test_redsea_has_a_ps_with_the_last_segment_and_a_list_in_version_a() -> None:
+    """Groups 15B have a segment of the decoder identification alone."""
+    found = redsea(*name(b"PAXO 318", [0xE16A]), *name(b"PAXO 318", kind="0B"), group("15B", 3, 0, 0xF803))
+    assert [k for k, line in enumerate(found) if "ps" in line] == [3, 7]
+    assert [k for k, line in enumerate(found) if "alt_frequencies_a" in line] == [3]
+
+
 def test_redsea_has_a_ps_as_soon_as_it_is_whole() -> None:
     sent = name(b"PAXO 318")
     assert [line.get("ps") for line in redsea(*sent[1:], *sent)] == [None] * 6 + ["PAXO 318"]
