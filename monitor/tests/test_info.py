@@ -344,6 +344,20 @@ def test_redsea_has_lists_by_method_b() -> None:
     assert found == {"tuned_frequency": 89300, "same_programme": [99500], "regional_variants": [101700]}
 
 
+def test_redsea_has_channels_and_messages_of_traffic() -> None:
+    """And a service of traffic messages with its own assignment alone."""
+    message = group("8A", 0b01101, 1 << 15 | 1 << 14 | 3 << 11 | 701, 4321)
+    channels = group("5A", 3, 0xFF01, 0x0203), group("5B", 31, 0, 0x0203)
+    found = redsea(*name(b"ONE"), oda(0xCD46, "8A", 0x0045), oda(0x4BD7, "11A"), *channels, message)[4:]
+    assert ["tmc" in line for line in found] == [True, False, False, False, True]
+    assert [line["transparent_data"] for line in found[2:4]] == [
+        {"address": 3, "raw": "FF 01 02 03"},
+        {"address": 31, "raw": "02 03"},
+    ]
+    told = dict(event_codes=[701], location=4321, extent="-3", diversion_advised=True)
+    assert found[4]["tmc"] == {"message": told}
+
+
 def test_redsea_has_the_last_of_two_lists_by_method_b() -> None:
     found = redsea(*name(b"PAXO 318", [0xE34B, 0x0F4B, 0xE30F, 0x0F4B]))[3]["alt_frequencies_b"]
     assert found == {"tuned_frequency": 89000, "same_programme": [95000], "regional_variants": []}
