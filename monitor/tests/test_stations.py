@@ -305,7 +305,8 @@ def test_kinds_of_sigmf(kind: str, tmp_path: Path) -> None:
     """The first capture has the centre. A rate that is named overrides the one described."""
     data, meta = (tmp_path / f"it.sigmf-{name}" for name in ("data", "meta"))
     described = {"core:datatype": kind, "core:sample_rate": 250000.4}
-    for frequencies, centre in (([9e7, 8e7], 9e7), ([], None)):
+    known: List[List[float]] = [[9e7, 8e7], []]
+    for frequencies, centre in zip(known, (9e7, None)):
         captures = [{"core:frequency": one} for one in frequencies]
         meta.write_text(json.dumps({"global": described, "captures": captures}))
         assert sigmf_of(str(meta)) == (str(data), KINDS[kind], 250000, centre)
