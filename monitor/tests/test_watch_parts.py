@@ -263,6 +263,12 @@ def test_a_fault_while_a_file_is_judged(error: Exception, told: str, monkeypatch
     assert (done.status, done.out) == (3, f"RDS UNKNOWN - {told}\n")
 
 
+def test_limits_that_are_the_same() -> None:
+    """They do not contradict each other: there is no warning then."""
+    given = SimpleNamespace(w=80.0, c=80.0, W=20.0, C=20.0)
+    assert check.limits_of(cast(Any, given)) == Limits(80, 80, 20, 20)
+
+
 @pytest.mark.parametrize(
     "words, is_listing, most", [((), False, 297), (("--soft",), False, 2376), ((), True, 22401)]
 )
