@@ -208,7 +208,7 @@ def test_a_minute_without_news(
 def judged(monkeypatch: pytest.MonkeyPatch, quiet: float, disk: str = "", **changes: Any) -> Verdict:
     """By a good state, with changes, of `quiet` seconds ago."""
     minute = {"sent": 2740, "valid": 2740, "corrected": 0}
-    state = {"utc": 1000.0, "session_utc": 1.0, "last_group_utc": 999.0, "held": {}, "alarms": {}}
+    state: Any = {"utc": 1000.0, "session_utc": 1.0, "last_group_utc": 999.0, "held": {}, "alarms": {}}
     known = (1000.0, {**state, "minute": minute, **changes}, disk, Availability(1, 2, 3, 4))
     monkeypatch.setattr(asked, "known_of", lambda path, name: known)
     monkeypatch.setattr(asked.time, "time", lambda: 1000.0 + quiet)
