@@ -178,6 +178,15 @@ def test_outages_over_a_cut_are_one(database) -> None:
     ]
 
 
+@pytest.mark.parametrize("blocks, outages", [(4, 1), (5, 2)])
+def test_valid_blocks_that_part_two_outages(blocks: int, outages: int, database) -> None:
+    """Five are a tenth of the 45.7 that are sent in a second."""
+    groups = [group_row(begin + 104 * n, WORDS) for begin in (0, 10000) for n in range(12)]
+    groups[12:12] = [group_row(5000, WORDS), group_row(5104, WORDS[:1])][: blocks - 3]
+    add("--unfinished --name it", database, data=listing(groups, False))
+    assert asked(database, "SELECT COUNT(*) FROM outages") == [outages]
+
+
 def test_the_views_of_written_rows(database) -> None:
     """Two sessions of other rates, the second from where the first ends; rows whose numbers all differ."""
     store.Store(str(database)).close()
