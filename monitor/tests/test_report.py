@@ -19,6 +19,7 @@ from conftest import encode, monitor, rds
 from made import peak_memory
 from rds_monitor.capture.picture import picture_of
 from rds_monitor.capture.stations import HEAD
+from rds_monitor.db.store import Store
 from rds_monitor.page.html import page_of, told_of
 from rds_monitor.page.line import COUNTS, Counted, Lanes, TimeLine, bad_percent, encoded, said
 from rds_monitor.page.overview import Span, last_minute, line_of, polyline, tile_of
@@ -411,6 +412,18 @@ def test_outages_that_meet_are_one(stored: List[Tuple[int, int]], told: List[Any
     )
     station._add_outages(line, session, stored, 0.0, 1000.0)  # type: ignore[arg-type]
     assert line.outages == told
+
+
+def test_sessions_of_unknown_start_follow_on_one_another(tmp_path: Path) -> None:
+    """Each of 3 s, from another position on."""
+    path = tmp_path / "it.db"
+    Store(str(path)).close()
+    with sqlite3.connect(path) as database:
+        database.execute("INSERT INTO recordings VALUES(1, 'it', 'X')")
+        insert = "INSERT INTO sessions VALUES(?, 1, ?, NULL, 1000, 60000, ?, ?, 1, NULL)"
+        database.executemany(insert, [(1, 0, 500, 3500), (2, 1, 2000, 5000)])
+    (station,) = Stored(str(path)).stations()
+    assert [(one.begin, one.end) for one in station.sessions] == [(0, 3), (3, 6)]
 
 
 @pytest.fixture(scope="module")

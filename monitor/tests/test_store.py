@@ -167,6 +167,7 @@ def test_outages_over_a_cut_are_one(database) -> None:
         database,
         data=listing([*lock(26, [WORDS] * 3), *lock(35672, [WORDS] * 342)], False),
     )
+    assert asked(database, "SELECT COUNT(*), SUM(more) FROM minutes WHERE mix IS NULL") == [(1, 0)]
     assert asked(database, "SELECT begin_utc, end_utc, length_s FROM station_outages") == [
         ("2026-03-29T23:59:52.547Z", "2026-03-29T23:59:53.598Z", 1.051),
         ("2026-03-29T23:59:59.992Z", "2026-03-30T00:01:00.000Z", 60.008),
