@@ -186,7 +186,9 @@ def test_rows_that_are_none(row: str, reason: str) -> None:
     assert said.startswith("row 42: ")
 
 
-def test_the_first_bad_row_is_told(station_listing: bytes) -> None:
+@pytest.mark.parametrize("size", [1000, 1 << 19])
+def test_the_first_bad_row_is_told(size: int, station_listing: bytes, monkeypatch) -> None:
+    monkeypatch.setattr(of_listing, "LINES", size)
     lines = station_listing.split(b"\n")
     lines[500] = lines[500].replace(b",A:", b",A;")
     lines[900] = b"lost"
