@@ -235,7 +235,6 @@ def test_rates_by_the_strongest_lines(apart: int) -> None:
     power[beside] = 0.07
     second = 301230 if abs(apart) == 8 else round(1900 / beside * BLOCK) * 10
     assert _by_pilot(power) == [213370, second]
-    assert _by_pilot(0 * power) == []
 
 
 def test_two_blocks_of_samples_tell_the_rate(signal: Array) -> None:

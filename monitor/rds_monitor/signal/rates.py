@@ -31,16 +31,21 @@ def _spectrum(samples: Signal) -> Reals:
 def _prominence(power: Reals, rate: float) -> float:
     """How much higher the pilot's line is than what is beside it, if this is the rate."""
     middle = round(PILOT_HZ / rate * BLOCK)
+    if not 40 <= middle < power.size - 40:
+        return 0.0
     beside = numpy.concatenate([power[middle - 40 : middle - 8], power[middle + 9 : middle + 41]])
     return float(power[middle - 2 : middle + 3].max() / (numpy.median(beside) + 1e-300))
 
 
 def _by_pilot(power: Reals) -> List[int]:
     """Rates at which one of the strongest lines would be the pilot."""
-    low, high = (int(PILOT_HZ / rate * BLOCK) for rate in (RATES[-1], RATES[0]))
+    slowest, fastest = (int(PILOT_HZ / rate * BLOCK) for rate in (RATES[-1], RATES[0]))
+    low, high = max(40, slowest), min(power.size - 40, fastest)
     window = power[low:high].copy()
     found = []
     for _ in range(2):
+        if window.size < 3:
+            break
         peak = int(window.argmax())
         a, b, c = numpy.log(power[low + peak - 1 : low + peak + 2] + 1e-300)
         beside = (a - c) / (2 * (a - 2 * b + c)) if a + c != 2 * b else 0.0
