@@ -4,10 +4,10 @@
     tests/wrong_bodies.py [--right] [--beside LOG] [CRATE..]
     tests/wrong_bodies.py --cut [CRATE..]
 
-A wrong body is an edit: a file, and pairs of a text and its replacement. If it makes a function wrong from outside its body, for example by a
-constant, a line `fails: FUNCTION` names that function. The edits are made in a copy of the crate. There each other function has a
-hole for its proof and a body that calls nothing, so an edited function is checked against the contracts of its callees. A second edit
-of a function is made in a twin: a copy of the function that follows it, with another name and the same contract and proof.
+A wrong body is an edit: a file, and pairs of a text of a function and its replacement. The edits are made in a copy of the crate. There
+each other function has a hole for its proof and a body that calls nothing, so an edited function is checked against the contracts of its
+callees. A second edit of a function is made in a twin: a copy of the function that follows it, with another name and the same contract
+and proof.
 A wrong body is refused
 
 - by a goal that `search` proves of the right body and not of this one. For such a goal the right proof, which `rt ci` checks, has
@@ -44,6 +44,7 @@ from holes import (
     PROGRAM,
     RT,
     TOP,
+    Function,
     below,
     built,
     checked,
@@ -86,7 +87,7 @@ any = ?
 class WrongBody:
     name: str
     edits: list  # (file, place, old, new)
-    functions: list
+    function: Function | None  # that is edited
     is_equal: bool  # it keeps the meaning
     is_told: bool  # the table tells what is false of it
     goals: Sequence = ()  # the goals that refuse it
@@ -121,11 +122,10 @@ def told_of():
 
 
 def wrong_body(crate, file, functions, told=()):
-    """Reads an edit, and finds the functions that it makes wrong."""
+    """Reads an edit, and finds its function."""
     lines = [it.partition(": ")[::2] for it in read(f"{CRATES}/{crate}/wrong/{file}").splitlines()]
-    outside = [f for f in functions if ("fails", f.path.replace(".", "::")) in lines]
     name, is_equal = f"{crate}/{file}", any(key == "equal" for key, _ in lines)
-    body = WrongBody(name, [], outside, is_equal, name.removesuffix(".edit") in told)
+    body = WrongBody(name, [], None, is_equal, name.removesuffix(".edit") in told)
     path, old = "", ""
     for key, said in lines:
         path = f"{crate}/{said}" if key == "file" else path
@@ -138,10 +138,12 @@ def wrong_body(crate, file, functions, told=()):
                 )
             at = text.index(old)
             body.edits.append((path, at, old, said))
-            body.functions += [f for f in functions if f.file == path and f.place[0] <= at < f.place[1]]
-    if not body.functions:
-        sys.exit(f"{body.name}: no function's body is edited, and none is named that fails")
-    return body
+            here = next((f for f in functions if f.file == path and f.place[0] <= at < f.place[1]), None)
+            # Without this rule an edit of a constant would change the trials of other edits.
+            if not here or body.function not in (None, here):
+                sys.exit(f"{body.name}: the text is in no function, or in another one: {old}")
+            body.function = here
+    return body if body.function else sys.exit(f"{body.name}: there is no edit in it")
 
 
 def edited(text, edits):
@@ -153,12 +155,8 @@ def edited(text, edits):
 
 def put_twin(folder, body, number):
     """Moves this wrong body to a twin of its function."""
-    f = body.functions[0]
+    f = body.function
     start, end = f.place
-    if len(body.functions) > 1 or not all(start <= at < end for _, at, _, _ in body.edits):
-        sys.exit(
-            f"{body.name}: another wrong body has {f.path}, and this one is no edit of that function alone"
-        )
     inside = [(path, at - start, old, new) for path, at, old, new in body.edits]
     name = f.path.rpartition(".")[2]
     text = re.sub(
@@ -168,9 +166,8 @@ def put_twin(folder, body, number):
         count=1,
     )
     body.edits = [(f.file, end, "", f"\n\n{text}")]
-    twin = replace(f, path=f"{f.path}_{number}")
-    body.functions = [twin]
-    put_proof(folder, f, twin)
+    body.function = replace(f, path=f"{f.path}_{number}")
+    put_proof(folder, f, body.function)
 
 
 def put_proof(folder, f, twin):
@@ -232,42 +229,37 @@ def prepare(folder, crate, bodies):
     """Puts the wrong bodies into the copy, and the right proofs of their functions."""
     count = {}
     for body in bodies:
-        if any(f in count for f in body.functions):
-            count[body.functions[0]] += 1
-            put_twin(folder, body, count[body.functions[0]])
+        f = body.function
+        count[f] = count.get(f, 0) + 1
+        if count[f] > 1:
+            put_twin(folder, body, count[f])
         else:
-            count |= dict.fromkeys(body.functions, 1)
-            for f in body.functions:
-                put_proof(folder, f, f)
-        for f in [] if body.is_told else body.functions:
-            leave_answers_open(folder, f)
+            put_proof(folder, f, f)
+        if not body.is_told:
+            leave_answers_open(folder, body.function)
     edits = [it for body in bodies for it in body.edits]
     for path in {it[0] for it in edits}:
         write(f"{folder}/{path}", edited(read(f"{CRATES}/{path}"), [it for it in edits if it[0] == path]))
-    put_loops(folder, crate, {f.path for body in bodies for f in body.functions})
+    put_loops(folder, crate, {body.function.path for body in bodies})
     drop_main(folder, crate)
     places = {f.path: f.place for f in functions_of(f"{folder}/{crate}")}
     for body in bodies:
-        body.functions = [replace(f, place=places[f.path]) for f in body.functions]
+        body.function = replace(body.function, place=places[body.function.path])
 
 
 def refusal(folder, body, said):
     """The goals, and the lines of answers by hand, by which the prover refuses a wrong body."""
-    goals, lines = [], []
-    for f in body.functions:
-        first, last = (read(f"{folder}/{f.file}").count("\n", 0, at) + 1 for at in f.place)
-        answers = f"{f.proof('.').partition(f'{f.crate}/')[2]}/Answers.antt"
-        text = (
-            read(f"{folder}/{f.crate}/{answers}") if os.path.isfile(f"{folder}/{f.crate}/{answers}") else ""
-        )
-        by_hand = re.findall(r"^pub (\S+) : goal\.", text, re.M)
-        source = f.file.partition("/")[2]
-        left_open = rf"^note: {source}:(\d+):\d+: .*\(`([^`]+)`\)(?:;|$)"
-        for line, goal in re.findall(left_open, said, re.M):
-            goals += [goal] if first <= int(line) <= last and goal not in by_hand else []
-        errors = re.findall(rf"^\./{answers}:(\d+):\d+: error: (.*)", said, re.M)
-        lines += [f"line {at} of {answers}" for at, why in errors if not re.search(GONE, why)]
-    return list(dict.fromkeys(goals)), list(dict.fromkeys(lines))
+    f = body.function
+    first, last = (read(f"{folder}/{f.file}").count("\n", 0, at) + 1 for at in f.place)
+    answers = f"{f.proof('.').partition(f'{f.crate}/')[2]}/Answers.antt"
+    file = f"{folder}/{f.crate}/{answers}"
+    by_hand = re.findall(r"^pub (\S+) : goal\.", read(file), re.M) if os.path.isfile(file) else []
+    left_open = rf"^note: {f.file.partition('/')[2]}:(\d+):\d+: .*\(`([^`]+)`\)(?:;|$)"
+    found = [goal for line, goal in re.findall(left_open, said, re.M) if first <= int(line) <= last]
+    goals = dict.fromkeys(goal for goal in found if goal not in by_hand)
+    errors = re.findall(rf"^\./{answers}:(\d+):\d+: error: (.*)", said, re.M)
+    lines = dict.fromkeys(f"line {at} of {answers}" for at, why in errors if not re.search(GONE, why))
+    return list(goals), list(lines)
 
 
 def is_as_wanted(body, are_right):
@@ -281,12 +273,13 @@ def runs_of(crate):
     """The files of the wrong bodies, by run. A trait's function has no twin: a second edit of it is tried in a second run."""
     functions, runs = list(functions_of(f"{CRATES}/{crate}")), []
     for file in sorted(it for it in os.listdir(f"{CRATES}/{crate}/wrong") if it.endswith(".edit")):
-        alone = {f.path for f in wrong_body(crate, file, functions).functions if f.is_of_trait}
-        files, taken = next((run for run in runs if not alone & run[1]), ([], set()))
+        f = wrong_body(crate, file, functions).function
+        files, taken = next((run for run in runs if f not in run[1]), ([], set()))
         if not files:
             runs.append((files, taken))
         files.append(file)
-        taken |= alone
+        if f.is_of_trait:
+            taken.add(f)
     return [files for files, _ in runs]
 
 
@@ -304,7 +297,7 @@ def try_some(room, crate, files, where, told, are_right):
         body.edits = [(path, at, old, old) for path, at, old, _ in body.edits]
     prepare(room, crate, bodies)
     ran = subprocess.run(
-        words(room, crate, {f.path.replace(".", "::") for it in bodies for f in it.functions}, where),
+        words(room, crate, {it.function.path.replace(".", "::") for it in bodies}, where),
         cwd=f"{room}/{crate}",
         stdout=subprocess.PIPE,
         stderr=subprocess.STDOUT,

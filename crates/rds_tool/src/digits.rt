@@ -47,21 +47,24 @@ fn four_decimals(n: u32) -> [u8; 4]
     requires { n < 10000 }
     ensures { result ≡ last_digits 4 n }
 {
-    let (high, low) = (n / 100, n % 100);
-    [
-        decimal_digit(high / 10),
-        decimal_digit(high % 10),
-        decimal_digit(low / 10),
-        decimal_digit(low % 10),
-    ]
+    let [a, b] = two_decimals(n / 100);
+    let [c, d] = two_decimals(n % 100);
+    [a, b, c, d]
 }
 
+/// The two digits of a number. A table takes half the time of divisions.
 #[inline(always)]
-fn decimal_digit(n: u32) -> u8
-    requires { n < 10 }
-    ensures { result ≡ 48 + n }
+fn two_decimals(n: u32) -> [u8; 2]
+    requires { n < 100 }
+    ensures { result ≡ last_digits 2 n }
 {
-    b'0' + n as u8
+    const PAIRS: [u8; 200] = *b"0001020304050607080910111213141516171819\
+        2021222324252627282930313233343536373839\
+        4041424344454647484950515253545556575859\
+        6061626364656667686970717273747576777879\
+        8081828384858687888990919293949596979899";
+    let at = 2 * n as usize;
+    [PAIRS[at], PAIRS[at + 1]]
 }
 
 /// The four hexadecimal digits of an information word.
