@@ -187,9 +187,12 @@ def test_three_ticks_over_ten_minutes_are_enough(numbers: Sequence[int], fits: b
         fit(minutes(*numbers))
 
 
-@pytest.mark.parametrize("numbers, steps", [((12,), []), ((12, 13), [-2.0])])
+@pytest.mark.parametrize(
+    "numbers, steps", [((14,), []), ((14, 15), [-2.0]), ((0, 1, 7), []), ((5, 14, 15), [])]
+)
 def test_two_ticks_tell_a_step(numbers: Sequence[int], steps: List[float]) -> None:
-    found = fit(minutes(*range(12)) + minutes(*numbers, late=2375))
+    """No tick of theirs is amid the longer stretch."""
+    found = fit(sorted(minutes(*range(2, 14)) + minutes(*numbers, late=2375)))
     assert [seconds for _, seconds in found.steps()] == pytest.approx(steps)
 
 

@@ -172,6 +172,8 @@ def test_types_of_corrected_blocks_by_themselves() -> None:
         "2,B,0,1,0.263,0.263",
         "-,?,1,0,0.175,0.175",
     ]
+    of_no_group = said("types", "--every", 60, "--unfinished", data=listing([acquired_row(51, 2)], False))
+    assert of_no_group == ["begin_s,end_s,type,version,groups,corrected"]
 
 
 def test_the_rows_as_a_table(station: bytes, station_listing: bytes) -> None:
@@ -364,7 +366,7 @@ def test_intervals_against_a_loop(rows: Rows, cuts: List[int], bits: float, tail
 
 
 @settings(max_examples=150, deadline=None)
-@given(SEEDS, CUTS, st.sampled_from([1, 10, 40, 100]), st.sampled_from([0.0, 0.08, 1.0]))
+@given(SEEDS, CUTS, st.sampled_from([0, 10, 40, 100]), st.sampled_from([0.0, 0.08, 1.0]))
 def test_outages_against_a_loop(rows: Rows, cuts: List[int], share: float, shortest: float) -> None:
     outages = Outages(1187.5, share, shortest)
     outages.begin(0)

@@ -89,7 +89,7 @@ def slope_of(stretches: List[List[Tick]]) -> Tuple[float, float]:
     below = sum(time * time for _, time in centred)
     rate = sum(place * time for place, time in centred) / below
     rest = sum((place - rate * time) ** 2 for place, time in centred)
-    return rate, float((rest / max(1, points - 1) / below) ** 0.5)
+    return rate, float((rest / (points - 1) / below) ** 0.5)
 
 
 def fit(ticks: List[Tick]) -> Fit:
@@ -97,7 +97,7 @@ def fit(ticks: List[Tick]) -> Fit:
     # The first guess is rough, since two ticks in a row are a minute apart.
     pairs = [(after.place - tick.place, after.time - tick.time) for tick, after in zip(ticks, ticks[1:])]
     slopes = [bits / seconds for bits, seconds in pairs if seconds > 0]
-    rate, error = statistics.median(slopes) if slopes else RATE, 0.0
+    rate = statistics.median(slopes) if slopes else RATE
     for slack in 1e-3, 1e-4:
         stretches = stretches_of(ticks, rate, slack)
         longest: List[Tick] = max(stretches, key=len, default=[])
