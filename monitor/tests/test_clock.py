@@ -105,13 +105,13 @@ def clock_times(hours: int, ppm: float, dropped: int = 0, wrong: int = 97) -> by
 
 @pytest.mark.parametrize("ppm, dropped", [(0, 0), (37, 0), (-120, 11875)])
 def test_the_samplers_clock(ppm: float, dropped: int) -> None:
-    text = clock_times(24, ppm, dropped)
+    text = clock_times(31, ppm, dropped)
     head, row = said("clock", "--unfinished", data=text)
     assert head == "groups,stretches,hours,rate,ppm,within_ppm,start_utc"
     found = dict(zip(head.split(","), row.split(",")))
     assert abs(float(found["ppm"]) - ppm) < 0.5 and float(found["within_ppm"]) < 1
     assert found["start_utc"].startswith("2026-03-29T00:30:17")
-    assert (found["groups"], found["hours"]) == ("1439", "23.97")
+    assert (found["groups"], found["hours"]) == ("1859", "30.97")
     options = said("clock", "--unfinished", "--options", data=text)[0].split()
     assert options[::2] == ["--start", "--rate"]
     steps = said("clock", "--unfinished", "--steps", data=text)[1:]
@@ -191,9 +191,16 @@ def test_three_ticks_over_ten_minutes_are_enough(numbers: Sequence[int], fits: b
     "numbers, steps", [((14,), []), ((14, 15), [-2.0]), ((0, 1, 7), []), ((5, 14, 15), [])]
 )
 def test_two_ticks_tell_a_step(numbers: Sequence[int], steps: List[float]) -> None:
-    """No tick of theirs is amid the longer stretch."""
-    found = fit(sorted(minutes(*range(2, 14)) + minutes(*numbers, late=2375)))
+    """None of them may be amid a longer stretch, as two are that are 8 s late."""
+    wrong = minutes(5, 7, late=9500)
+    found = fit(sorted(minutes(*range(2, 14)) + wrong + minutes(*numbers, late=2375)))
     assert [seconds for _, seconds in found.steps()] == pytest.approx(steps)
+
+
+def test_the_first_guess_of_a_rate_is_rough() -> None:
+    """Two of three ticks come 50 ms later than the one before, which over 21 minutes would be a second."""
+    ticks = [Tick(71250 * n + n % 3 * 60, 60 * n) for n in (*range(7), *range(27, 34))]
+    assert len(fit(ticks).stretches) == 1
 
 
 @pytest.mark.parametrize("strays, lengths", [(8, [13]), (9, [7, 6])])
