@@ -193,6 +193,7 @@ def test_the_first_bad_row_is_told(size: int, station_listing: bytes, monkeypatc
     lines[500] = lines[500].replace(b",A:", b",A;")
     lines[900] = b"lost"
     assert refused(b"\n".join(lines)).startswith("row 501: its block 1")
+    assert refused(b"\n".join([HEADER, *lines])).startswith("row 502: its block 1")
 
 
 def test_the_first_eighty_signs_of_a_bad_row_are_told(station_listing: bytes) -> None:
@@ -277,8 +278,8 @@ def test_sessions_are_told_apart(station_listing: bytes) -> None:
 def test_places_that_go_back() -> None:
     rows = [group_row(104 * n, WORDS) for n in (0, 1, 2, 1)]
     assert refused(listing(rows, False), unfinished_ok=True).startswith("row 4: its place goes back")
-    overlapping = [group_row(0, WORDS), group_row(103, WORDS)]
-    assert refused(listing(overlapping, False), unfinished_ok=True).startswith("row 2: its place goes back")
+    overlapping = [group_row(place, WORDS) for place in (0, 104, 207)]
+    assert refused(listing(overlapping, False), unfinished_ok=True).startswith("row 3: its place goes back")
     # Sync begins with the last bit of a block: a group begins at most 25 bits before.
     early = [acquired_row(51, 1), group_row(25, WORDS)]
     assert refused(listing(early, False), unfinished_ok=True).startswith("row 2: its place goes back")
@@ -292,6 +293,7 @@ def test_a_row_that_is_missing(gone: int) -> None:
     text = text_of(numpy.concatenate(rows)) + whole[whole.index(b"total,") :]
     fault = refused(text)
     assert "rows are missing" in fault and "(--unfinished accepts a part)" in fault
+    assert gone == -1 or fault.startswith(f"row {gone % 104 + 1}: ")
     # In a part rows may be missing, and it goes on.
     assert len(read(text, unfinished_ok=True)) == len(rows)
 
@@ -299,7 +301,8 @@ def test_a_row_that_is_missing(gone: int) -> None:
 def test_a_row_too_many() -> None:
     text, other = (listing(lock(26, [WORDS] * count, lost=False)) for count in (5, 4))
     both = text[: text.index(b"total,")] + other[other.index(b"total,") :]
-    assert refused(both, unfinished_ok=True).endswith("rows are missing or too many")
+    fault = "the total 'valid' is 16, but the rows have 20: rows are missing or too many"
+    assert refused(both, unfinished_ok=True) == fault
 
 
 def test_a_listing_without_totals(station_listing: bytes) -> None:

@@ -145,7 +145,7 @@ class Listing:
         self._last = rows[-1:].copy()
         self._counted = add_totals(self._counted, totals_of(rows))
         self._corrected += int((kinds_of(rows) == CORRECTED).sum())
-        self.end = max(self.end, int(ends_of(self._last)[0]))
+        self.end = max(self.end, ends_of(self._last).item())
         of = f"{self.length} bits of the recording: it is of another one, or the length is wrong"
         for most, text in ((LONGEST, "2^36 bits that a listing may have"), (self.length, of)):
             if most is not None and self.end > most:
