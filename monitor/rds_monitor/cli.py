@@ -70,9 +70,8 @@ class Parser(argparse.ArgumentParser):
 
 
 def parser_of(command: Command) -> Parser:
-    name, text = f"rds-monitor {command.name}", f"{command.summary[0].upper()}{command.summary[1:]}."
-    form = argparse.RawDescriptionHelpFormatter
-    parser = Parser(prog=name, description=text, formatter_class=form, allow_abbrev=False)
+    name, form = f"rds-monitor {command.name}", argparse.RawDescriptionHelpFormatter
+    parser = Parser(prog=name, formatter_class=form, allow_abbrev=False)
     command.options(parser)
     return parser
 
@@ -99,10 +98,10 @@ def overview() -> str:
 
 def chosen(words: Sequence[str]) -> Optional[Command]:
     """The command that the first word names; help and the version are printed here."""
-    if not words or words[0] in ("-h", "--help", "help"):
+    if not words or words[0] in {"-h", "--help", "help"}:
         sys.stdout.write(overview())
         return None
-    if words[0] in ("-V", "--version"):
+    if words[0] in {"-V", "--version"}:
         try:
             decoder = importlib.import_module("rds_monitor.rows.decoders").decoder_of()[1]
         except Fault as error:

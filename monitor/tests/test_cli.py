@@ -27,8 +27,14 @@ from rds_monitor.watch import verdict
 MONITOR = TOP / "monitor"
 
 
+# In the order of the help: tables, contents and rows; what is made of them; and what is done before.
+NAMES = """errors outages programmes types corrected clock info json groups table db report why check
+    form pack demod stations batch watch""".split()
+
+
 def test_help_has_an_example() -> None:
     text = run("--help").out
+    assert re.findall(r"^  (\w+) ", text, re.M) == NAMES
     for command in cli.COMMANDS:
         assert f"  {command.name} " in text and command.summary in text
         shown = run(command.name, "--help")
@@ -179,6 +185,15 @@ def test_a_full_device(command: str, station: bytes) -> None:
         done = subprocess.run(words, input=station, stdout=full, stderr=subprocess.PIPE)
     assert done.returncode == 1
     assert done.stderr == f"rds-monitor {command.split()[0]}: writing: No space left on device\n".encode()
+
+
+def test_a_fault_after_rows_for_a_full_device() -> None:
+    """The rows are lost, and the fault is told."""
+    text = "import sys; from rds_monitor import cli; print(1); sys.exit(cli._say('it', 'a fault', 1))"
+    buffered = {**os.environ, "PYTHONUNBUFFERED": ""}
+    with open("/dev/full", "wb") as full:
+        done = subprocess.run([sys.executable, "-c", text], stdout=full, stderr=subprocess.PIPE, env=buffered)
+    assert (done.returncode, done.stderr) == (1, b"it: a fault\n")
 
 
 def test_a_reader_that_leaves(station_listing: bytes, tmp_path) -> None:
