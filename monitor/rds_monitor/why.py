@@ -13,7 +13,6 @@ from .rows.blocks import REMAINDERS
 from .rows.decoders import rds_program
 from .rows.items import Fault
 
-HEX_TEXT = re.compile(rb"[0-9A-Fa-f \t\r\n]*")
 DIGITS = b"0123456789ABCDEFabcdef"
 
 
@@ -64,10 +63,9 @@ def bits_held(words: Sequence[str], held: bytes) -> int:
 
 
 def hex_text(_words: Sequence[str], held: bytes) -> List[str]:
-    found = HEX_TEXT.match(held)
-    at = found.end() if found else 0
+    at = len(held) - len(held.lstrip(DIGITS + b" \t\r\n"))
     if at < len(held):
-        line, column = held.count(b"\n", 0, at) + 1, at - (held.rfind(b"\n", 0, at) + 1) + 1
+        line, column = held.count(b"\n", 0, at) + 1, at - held.rfind(b"\n", 0, at)
         place = f"byte {at + 1} (line {line}, column {column})"
         return [f"{place} is 0x{held[at]:02X}, neither a digit nor blank"]
     return [f"there are {bits_held(['--hex'], held) // 4} digits, an odd number"]

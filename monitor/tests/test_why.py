@@ -34,7 +34,7 @@ CASES = [
         ["gap 2, 4-9, begins before 5, the end of the one before it"],
     ),
     (b"0000", "list --hex --gaps 1-17", "16 BadGaps", ["gap 1, 1-17, " + PAST + "16 bits"]),
-    (b"0000", "list --bits 7 --gaps 1-8", "16 BadGaps", ["gap 1, 1-8, " + PAST + "7 bits"]),
+    (b"0000", "list --bits 7 --gaps 1-5,4-8", "16 BadGaps", ["gap 2, 4-8, " + PAST + "7 bits"]),
     (b"0000", "list --bits 33", "4 BitsPastBytes", ["the input holds 32 bits"]),
     (b"0000", "list --burst 6", "1 BurstRange", []),
     (
@@ -100,9 +100,10 @@ def test_long_hexadecimal_text_is_cut_between_two_digits() -> None:
 
 
 def test_the_first_four_million_bits_are_looked_at() -> None:
-    """2^22 bits are 2^19 bytes, or 2^20 hexadecimal digits."""
+    """2^22 bits are 2^19 bytes, or 2^20 hexadecimal digits; of these there are half as many if each is followed by a blank."""
     assert len(first_bits(["list"], bytes((1 << 19) + 9))) == 1 << 22
     assert len(first_bits(["list", "--hex"], b"0" * ((1 << 20) + 9))) == 1 << 22
+    assert len(first_bits(["list", "--hex"], b"0 " * (1 << 20))) == 1 << 21
 
 
 def test_no_program() -> None:
