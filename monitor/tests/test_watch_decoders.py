@@ -14,7 +14,7 @@ import pytest
 from conftest import PROGRAM, TOP, encode, monitor, no_librds, rds
 from network import START, Air, Network, Plan, Programme, asked, decoders_of, hours_in, numbers_in, stations
 from rds_monitor.rows import decoders
-from rds_monitor.rows.decoders import ByLibrary, ByProgram, NewDecoder, by_program, decoder_of
+from rds_monitor.rows.decoders import ByLibrary, ByProgram, NewDecoder, by_program, decode, decoder_of
 from rds_monitor.rows.items import Fault
 from rds_monitor.rows.listing import text_of, totals_text
 from station import Periodic, encoded
@@ -56,7 +56,9 @@ def test_the_same_rows_after_the_same_bits() -> None:
         text, at = text + text_of(rows[1]), at + size
     ends = [value.finish() for value in (library, program)]
     assert (ends[0][0] == ends[1][0]).all() and ends[0][1] == ends[1][1] and ends[1][1] is not None
+    rows, totals = decode(data)
     assert text + text_of(ends[1][0]) + totals_text(ends[1][1]) == rds("list", data=data)
+    assert text_of(rows) + totals_text(totals) == rds("list", data=data)
 
 
 def test_a_push_that_fills_all_pipes() -> None:
@@ -100,6 +102,7 @@ def script(folder: Path, text: str) -> str:
         ("read -r x; printf '%081d\\n' 1; cat > /dev/null", "writes no listing: b'0{80}'$"),
         ("echo of no use >&2; exec >&-; sleep 0.3; exit 3", "ended with status 3: of no use"),
         ("exec /none/rds", "ended with status 12[67]: "),
+        ("exit 0", "ended with status 0$"),
     ],
 )
 def test_a_program_that_is_none(
