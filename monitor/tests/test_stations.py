@@ -17,7 +17,7 @@ from made import peak_memory, run
 from measure_demod import whole_groups
 from modulator import stored, wav
 
-from rds_monitor.capture.picture import picture_of
+from rds_monitor.capture.picture import Drawing, picture_of
 from rds_monitor.capture.stations import HEAD
 from rds_monitor.rows.items import Fault
 from rds_monitor.signal.centre import centre_in_auxi, centre_in_name, frequency_of, frequency_text, sigmf_of
@@ -172,8 +172,29 @@ def test_names_in_a_picture() -> None:
     rows += [(f"98.{n}M", "-9.0", "20.0", "D318", f" PS{n} ") for n in range(3)]
     spectrum = Spectrum(numpy.ones(96), numpy.arange(-48e4, 48e4, 1e4))
     page = picture_of(spectrum, Tuning(98e6, 960000), [-1e5, 0.0, 1e5, 2e5], HEAD, rows)
-    names = re.findall(r'<text x="[\d.]+" y="(\d+)">([^<]*)</text>', page)
-    assert names == [("12", "D317"), ("24", "PS0"), ("36", "PS1"), ("12", "PS2")]
+    texts = re.findall(r'<text x="([\d.]+)" y="([\d.]+)"[^>]*>([^<]*)</text>', page)
+    assert texts == [
+        *(("2", "318.0", "0 dB"), ("2", "11.0", "10 dB")),
+        *(
+            ("480.0", "332", "97.9M"),
+            ("483.0", "12", "D317"),
+            ("606.3", "344", "98.0M"),
+            ("609.3", "24", "PS0"),
+        ),
+        *(
+            ("732.6", "356", "98.1M"),
+            ("735.6", "36", "PS1"),
+            ("858.9", "332", "98.2M"),
+            ("861.9", "12", "PS2"),
+        ),
+    ]
+
+
+def test_a_line_has_a_point_per_column_at_most() -> None:
+    """The mean power of each three of 2,500 bins is 10 dB, the lowest level; one bin is left over."""
+    spectrum = Spectrum(numpy.append(numpy.tile([1.0, 1.0, 28.0], 833), 5.0), numpy.arange(2500.0))
+    points = " ".join(f"{1200 * n / 832:.1f},320.0" for n in range(833))
+    assert Drawing(spectrum).line() == f'<polyline points="{points}"/>'
 
 
 def test_how_high_a_hump_is() -> None:
