@@ -280,12 +280,15 @@ def test_places_that_go_back() -> None:
     assert refused(listing(rows, False), unfinished_ok=True).startswith("row 4: its place goes back")
     overlapping = [group_row(place, WORDS) for place in (0, 104, 207)]
     assert refused(listing(overlapping, False), unfinished_ok=True).startswith("row 3: its place goes back")
+    # The type of the group before, 1, is no number of a block that acquired.
+    back = [acquired_row(51, 1), *(group_row(place, (0xD393, 0x1548, 0, 0)) for place in (26, 1))]
+    assert refused(listing(back)).startswith("row 3: its place goes back")
     # Sync begins with the last bit of a block: a group begins at most 25 bits before.
     early = [acquired_row(51, 1), group_row(25, WORDS)]
     assert refused(listing(early, False), unfinished_ok=True).startswith("row 2: its place goes back")
 
 
-@pytest.mark.parametrize("gone", [0, 1, 2, 60, -2, -1])
+@pytest.mark.parametrize("gone", [0, 1, 2, 52, 60, -2, -1])
 def test_a_row_that_is_missing(gone: int) -> None:
     rows = lock(26, [WORDS] * 50) + lock(8000, [WORDS] * 50)
     whole = listing(rows)
