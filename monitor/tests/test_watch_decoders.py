@@ -103,6 +103,7 @@ def script(folder: Path, text: str) -> str:
         ("echo of no use >&2; exec >&-; sleep 0.3; exit 3", "ended with status 3: of no use"),
         ("exec /none/rds", "ended with status 12[67]: "),
         ("exit 0", "ended with status 0$"),
+        ("echo refused 8 OutOfMemory >&2; echo more >&2; exit 1", "^refused 8 OutOfMemory$"),
     ],
 )
 def test_a_program_that_is_none(

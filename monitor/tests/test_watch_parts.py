@@ -508,7 +508,7 @@ def test_changes_that_are_too_many() -> None:
         part._keep(Event(104 * number, 0xD318, "ps", str(number), None, str(number)))
     part.pass_to(3 * 71250)
     told = part.taken()
-    assert [event.text for event in told.events] == list("012345")
+    assert [(event.number, event.text) for event in told.events] == [(0, text) for text in "012345"]
     assert [minute.more for minute in told.minutes] == [3, 0]
 
 
