@@ -23,7 +23,7 @@ from .rows.listing import CUT
 LOCK, WORK = ".batch.lock", ".batch-"
 COMPLETE = re.compile(rb"^total,complete,([0-9]+),", re.MULTILINE)
 LAST = re.compile(rb"^total,losses,[0-9]+,-,-,-,-,-\n\Z", re.MULTILINE)
-OPTIONS = ("--suffix", "--options", "--demod", "--shared", "--wait")
+OPTIONS = {"--suffix", "--options", "--demod", "--shared", "--wait"}
 LEAST = 2  # complete groups that show a station
 
 DESCRIPTION = """\
@@ -78,7 +78,7 @@ def locked(folder: str, wait: bool) -> IO[bytes]:
 def clean(folder: str) -> None:
     """Removes what batches left that were killed."""
     for entry in os.scandir(folder):
-        if entry.name.startswith(WORK) and entry.is_dir(follow_symlinks=False):
+        if entry.name.startswith(WORK) and entry.is_dir():
             shutil.rmtree(entry.path, ignore_errors=True)
 
 
@@ -176,7 +176,7 @@ class BatchRun:
         self._recordings, self._work = recordings, work
         self._waiting = set(range(len(recordings)))
         self._shows = sys.stderr.isatty()
-        self.bad = 0
+        self.is_bad = False
 
     def take(self, number: int, status: int, said: str) -> None:
         """Puts a listing that is whole into its place, and names a recording that failed or has no station."""
@@ -197,7 +197,7 @@ class BatchRun:
             print(f"\r{done} of {len(self._recordings)}\x1b[K", end="", file=sys.stderr, flush=True)
 
     def name(self, recording: Job, fault: str) -> None:
-        self.bad += 1
+        self.is_bad = True
         clear = "\r\x1b[K" if self._shows else ""
         # In one write, since GNU parallel writes to the same stream.
         sys.stderr.write(f"{clear}rds-monitor batch: {told(recording.path)}: {told(fault)}\n")
@@ -247,4 +247,4 @@ def run_batch(arguments: argparse.Namespace) -> int:
             batch.finish()
         finally:
             shutil.rmtree(work, ignore_errors=True)
-    return 1 if batch.bad else 0
+    return int(batch.is_bad)

@@ -64,8 +64,9 @@ def test_listings_of_whatever_name(folders: Any, station_listing: bytes) -> None
     assert (done.returncode, done.stdout, done.stderr) == (0, b"", b"")
     assert listings(folders[1]) == {name[:-4] + ".csv": station_listing for name in NAMES}
     assert not left_over(folders[1])
-    # Those that are there are left as they are, and so is a folder.
+    # Those that are there are left as they are, and so is a folder, and one to which a link leads.
     (folders[1] / "mine").mkdir()
+    (folders[1] / f"{WORK}link").symlink_to(folders[0])
     (folders[1] / "a.csv").write_bytes(b"mine\n" + station_listing[-400:])
     (folders[1] / "-n.csv").unlink()
     assert monitor("batch", *folders).returncode == 0
