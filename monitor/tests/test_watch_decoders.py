@@ -80,7 +80,7 @@ def test_no_bits() -> None:
 def test_a_program_that_dies() -> None:
     program = ByProgram(PROGRAM)
     given = len(program.push(received(5)))
-    assert given and program._process
+    assert given and program._process and os.getsid(program._process.pid) == program._process.pid
     os.kill(program._process.pid, signal.SIGKILL)
     with pytest.raises(Fault, match=" was ended by SIGKILL"):
         program.push(b"more")
@@ -116,6 +116,12 @@ def test_a_program_that_is_none(
         program.push(b"some bytes\n")
     with pytest.raises(Fault):
         program.finish()
+
+
+def test_a_line_whose_end_is_not_there_yet(tmp_path: Path) -> None:
+    rest = "read -r x; printf ',26,0,A,none,B:0548,C:E0CD,D:5041\\n'; cat > /dev/null"
+    program = ByProgram(script(tmp_path, f"printf 'acquired,51,2,-,-,-,-,-\\ngroup'; {rest}"))
+    assert [len(program.push(data)) for data in (b"x", b"\n")] == [1, 1]
 
 
 def test_which_decoder(tmp_path: Path, monkeypatch: pytest.MonkeyPatch) -> None:
