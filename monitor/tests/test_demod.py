@@ -311,6 +311,7 @@ HELP = [
     ),
     ("form", "unpacked bits, bytes 0 and 1 rds-monitor pack --from bytes unknown.dat"),
     ("form", "The exit status is 1 if no format gives two groups."),
+    ("batch", "(fewer than two complete groups); then the exit status is 1."),
 ]
 
 
