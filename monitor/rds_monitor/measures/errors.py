@@ -56,12 +56,11 @@ class Errors:
         self._grow(after)
         kinds, cuts = kinds_of(groups).reshape(-1), self._cuts(groups, first, after)
         read = numpy.flatnonzero(kinds)
-        # The last block that was read before the end of each interval: perhaps one of an interval before.
-        last = read[numpy.maximum(numpy.searchsorted(read, cuts[1:]) - 1, 0)]
+        # The last block that was read before the end of each interval, perhaps of an interval before; if there is none, one after it.
+        last = read[numpy.searchsorted(read, cuts[1:]) - 1]
         heard = numpy.flatnonzero((last >= cuts[:-1]) & (last < cuts[1:]))
         last, table = last[heard], self._table[first:after]
-        ends = places_of(groups[last // 4])[numpy.arange(len(last)), last % 4] + BLOCK_BITS
-        table[heard, 0] = numpy.maximum(table[heard, 0], ends)
+        table[heard, 0] = places_of(groups[last // 4])[numpy.arange(len(last)), last % 4] + BLOCK_BITS
         for column, kind in enumerate((LOST, VALID, CORRECTED), 1):
             # In the intervals between two of these no block was read.
             table[heard, column] += numpy.add.reduceat(kinds == kind, cuts[heard], dtype="i4")
