@@ -13,12 +13,13 @@ import numpy
 import pytest
 from captures import PROGRAMMES, SMALL_RATE, SMALL_SECONDS, Sent, captured, small_capture
 from conftest import monitor
-from made import peak_memory, run
+from made import peak_memory, run, said
 from measure_demod import whole_groups
 from modulator import stored, wav
 
+from rds_monitor.capture import stations
 from rds_monitor.capture.picture import Drawing, picture_of
-from rds_monitor.capture.stations import HEAD
+from rds_monitor.capture.stations import HEAD, StationSeen
 from rds_monitor.rows.items import Fault
 from rds_monitor.signal.centre import centre_in_auxi, centre_in_name, frequency_of, frequency_text, sigmf_of
 from rds_monitor.signal.found import Spectrum, candidates, with_rds
@@ -213,6 +214,17 @@ def test_no_station() -> None:
         done = monitor("stations", *SHOWN, *more, data=silence)
         assert done.returncode == 1 and shown in done.stdout and b"no station was found" in done.stderr
     assert b"--raw needs --rate" in monitor("stations", "--raw", "u8").stderr
+    cut = wav(bytes(4000), "s16", RATE, channels=2)[:-1000]
+    assert b"the file is cut off" in monitor("stations", data=cut).stderr
+
+
+def test_a_station_that_says_little(monkeypatch: pytest.MonkeyPatch) -> None:
+    """What did not come is a hyphen, or null in JSON."""
+    found = StationSeen(98e6, None, 20.0, None, "Ä")
+    monkeypatch.setattr(stations, "stations_in", lambda *of: (None, [found], None))
+    told = ['{"frequency": 98000000.0, "level_dbfs": null, "snr_db": 20.0, "pi": null, "ps": "Ä"}']
+    assert said("stations", *SHOWN, "--json") == told
+    assert said("stations", *SHOWN)[1].split() == ["98M", "-", "20.0", "-", "Ä"]
 
 
 # ---- errors
