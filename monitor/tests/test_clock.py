@@ -153,7 +153,15 @@ def test_clock_times_that_are_none() -> None:
     assert ticks_of(first) == [Tick(1000, 0)] and ticks_of(minute_group(1000, -60)) == []
     hour_24 = {"info3": int(good["info3"][0]) | 1}
     for changes in (
-        *({"info4": 0x7F02}, {"kind1": 3}, {"kind4": 1}, {"version": 2}, {"number": 3}),
+        *(
+            {"info4": 0x7F02},
+            {"kind1": 3},
+            {"kind2": 3},
+            {"kind3": 3},
+            {"kind4": 1},
+            {"version": 2},
+            {"number": 3},
+        ),
         *({**hour_24, "info4": 0x8000}, {**hour_24, "info4": 0xF000}),
     ):
         bad = good.copy()
@@ -188,7 +196,7 @@ def test_three_ticks_over_ten_minutes_are_enough(numbers: Sequence[int], fits: b
 
 
 @pytest.mark.parametrize(
-    "numbers, steps", [((14,), []), ((14, 15), [-2.0]), ((0, 1, 7), []), ((5, 14, 15), [])]
+    "numbers, steps", [((14,), []), ((14, 15), [-2.0]), ((0, 1, 2), []), ((12, 14, 15), [])]
 )
 def test_two_ticks_tell_a_step(numbers: Sequence[int], steps: List[float]) -> None:
     """None of them may be amid a longer stretch, as two are that are 8 s late."""
