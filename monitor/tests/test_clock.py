@@ -203,6 +203,7 @@ def test_two_ticks_tell_a_step(numbers: Sequence[int], steps: List[float]) -> No
     wrong = minutes(5, 7, late=9500)
     found = fit(sorted(minutes(*range(2, 14)) + wrong + minutes(*numbers, late=2375)))
     assert [seconds for _, seconds in found.steps()] == pytest.approx(steps)
+    assert all(tick == Tick(71250 * 14 + 2375, 60 * 14) for tick, _ in found.steps())
 
 
 def test_the_first_guess_of_a_rate_is_rough() -> None:
