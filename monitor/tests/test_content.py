@@ -164,6 +164,11 @@ CASES: Dict[str, Case] = {
         {"tmc_message": dict(event=2047, location=65535, direction="positive", extent=2)},
         texts={"tmc_message": "event 2047 at location 65535, extent +2"},
     ),
+    "8A: TMC message without a diversion": Case(
+        [group("8A", 0b01101, 1 << 14 | 3 << 11 | 701, 4321)],
+        {"tmc_message": {**MESSAGE, "diversion": False, "duration": 5}},
+        texts={"tmc_message": "event 701 at location 4321, extent -3, duration 5"},
+    ),
     "8A: TMC message of another application": Case(
         [oda(0x1234, "8A"), group("8A", 0b01101, 701, 4321)], {"tmc_message": None}
     ),
@@ -248,6 +253,13 @@ CASES: Dict[str, Case] = {
         [oda(0x6552, "12A", 0), *segments("12A", "Žluťoučký kůň\r".encode("utf-16-be"))],
         {"ert": "Žluťoučký kůň"},
     ),
+    **{
+        f"eRT of 128 bytes in {coding}": Case(
+            [oda(0x6552, "12A", number), *segments("12A", LONG.decode().encode(coding).ljust(128))],
+            {"ert": LONG.decode()},
+        )
+        for number, coding in enumerate(("utf-16-be", "utf-8"))
+    },
     "RT+ for eRT": Case(
         [
             *(oda(0x6552, "13A", 1), oda(0x4BD8, "12A")),
@@ -552,6 +564,31 @@ def test_how_many_pairs_have_to_be_valid_for_single_ones(singles: int, valid: in
         : 16 - valid
     ]
     assert bool(told(events_of(LONG_ONCE * 2, lost + wrong), "rt")) == is_told
+
+
+def test_the_last_pairs_before_a_text_count() -> None:
+    """Those of a text that is said again and again, of which earlier ones are corrected: two of the next text may be, too."""
+    bad = [*((number, block) for number in range(24, 32) for block in (3, 4)), (41, 4), (42, 4)]
+    groups = 20 * text(b"A text\r") + text(b"Another one\r", 1)
+    events = events_of(groups, [(number, Damage(block, CORRECTED)) for number, block in bad])
+    assert told(events, "rt") == ["A text", "Another one"]
+
+
+@pytest.mark.parametrize("size", [1, 99])
+@pytest.mark.parametrize("steps, texts", [(5, ["This text has 23 signs."]), (6, [])])
+def test_when_a_turn_of_a_text_can_have_been_missed(steps: int, texts: List[str], size: int) -> None:
+    """The sixth segment comes as late as the turn of five segments takes, or a segment later."""
+    rows, decoder = rows_of(text(b"This text has 23 signs.\r")), Decoder()
+    rows["place"][6] += numpy.uint64(104 * (steps - 1))
+    events = [event for at in range(0, len(rows), size) for event in decoder.feed(rows[at : at + size])]
+    assert told(events, "rt") == texts
+
+
+@pytest.mark.parametrize("turns, texts", [(343, ["Of 11 signs"]), (344, ["Of 11 signs", "Of 11 si"])])
+def test_how_long_a_text_that_ends_early_is_kept(turns: int, texts: List[str]) -> None:
+    """In a minute are 685 groups of 104 bits. Its last segment came that long before the last turn, or two groups more."""
+    groups = 12 * text(b"Of 11 signs\r")
+    assert told(events_of(groups + turns * groups[:2]), "rt") == texts
 
 
 @pytest.mark.parametrize("segments", [(3, 4), (4, 5)])

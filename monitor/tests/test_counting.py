@@ -257,6 +257,9 @@ def test_a_text_that_begins_anew_early_is_the_same_in_chunks(bad: float) -> None
 OTHER_FM, LETTERS = name(b"OTHER FM"), text(b"Abcdefgh")
 CUT = {
     "a name that changes within a turn": 2 * NAMED + NAMED[:2] + OTHER_FM[2:] + 6 * OTHER_FM,
+    "a name of which a segment is repeated, and the last one changes": (
+        NAMED + 3 * NAMED[:1] + 3 * NAMED + NAMED[:3] + OTHER_FM[3:] + 5 * OTHER_FM
+    ),
     "a text that fills its segments": 20 * text(b"A text\r"),
     "a text that becomes its first segment": 3 * LETTERS + 20 * LETTERS[:1],
 }
