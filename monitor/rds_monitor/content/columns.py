@@ -94,7 +94,7 @@ class Groups:
 
     def _set(self, alike: Columns, application: Array) -> None:
         self.alike, self.application = alike, application
-        present = numpy.flatnonzero(numpy.bincount(alike.code, minlength=32))
+        present = numpy.flatnonzero(numpy.bincount(alike.code))
         self._by_code = {code: numpy.flatnonzero(alike.code == code) for code in present.tolist()}
         self._carried: Dict[Tuple[Any, ...], Tuple[Array, Array]] = {}
 

@@ -204,11 +204,11 @@ class Evidence:
         names = message[bounds].tolist()
         known = [self.states.get(name, 0) for name in names]
         state = numpy.repeat(known, numpy.diff([*bounds, message.size]))
-        tick = counted.at << POSITION_BITS | counted.key & (1 << POSITION_BITS) - 1
+        # A group has one part of a message.
         for begin, end, name in zip(bounds, [*bounds[1:], message.size], names):
-            ticks = numpy.sort(tick[begin:end][changed[begin:end]])
+            ticks = numpy.sort(counted.at[begin:end][changed[begin:end]])
             if ticks.size:
-                state[begin:end] += numpy.searchsorted(ticks, tick[begin:end], side="right")
+                state[begin:end] += numpy.searchsorted(ticks, counted.at[begin:end], side="right")
                 self.states[name] = self.states.get(name, 0) + ticks.size
         return state
 

@@ -7,8 +7,8 @@ from .features import item_number
 from .looks import Kind
 from .texts import name_of
 
-# IEC 62106, clause 6.2.1.6: the codes of frequencies, of fillers, of how many follow, and of a long or medium wave after it.
-LAST_VHF, FILLER, NONE_FOLLOW, MOST_FOLLOW, LOW_FOLLOWS = 204, 205, 224, 249, 250
+# IEC 62106, clause 6.2.1.6: the codes of frequencies, of how many follow, and of a long or medium wave after it.
+LAST_VHF, NONE_FOLLOW, MOST_FOLLOW, LOW_FOLLOWS = 204, 224, 249, 250
 
 
 def kilohertz(code: int, low: bool = False) -> Optional[int]:
@@ -119,8 +119,6 @@ class Frequencies(Taker):
         self._lists: Dict[int, FrequencyList] = {}
 
     def take(self, kind: int, message: int, position: int, value: int) -> None:
-        if not NONE_FOLLOW <= message >> 8 <= MOST_FOLLOW:
-            return
         if message not in self._lists:
             self._lists[message] = FrequencyList(message)
         found = self._lists[message].take(value)
