@@ -257,9 +257,6 @@ def test_a_text_that_begins_anew_early_is_the_same_in_chunks(bad: float) -> None
 OTHER_FM, LETTERS = name(b"OTHER FM"), text(b"Abcdefgh")
 CUT = {
     "a name that changes within a turn": 2 * NAMED + NAMED[:2] + OTHER_FM[2:] + 6 * OTHER_FM,
-    "a name of which a segment is repeated, and the last one changes": (
-        NAMED + 3 * NAMED[:1] + 3 * NAMED + NAMED[:3] + OTHER_FM[3:] + 5 * OTHER_FM
-    ),
     "a text that fills its segments": 20 * text(b"A text\r"),
     "a text that becomes its first segment": 3 * LETTERS + 20 * LETTERS[:1],
 }
@@ -272,6 +269,26 @@ def test_names_and_texts_are_the_same_wherever_they_are_cut(title: str) -> None:
     for cut in range(1, len(rows)):
         decoder = Decoder(lapses=True)
         assert decoder.feed(rows[:cut]) + decoder.feed(rows[cut:]) == whole, cut
+
+
+AB, A_B = text(b"ABCDEF\r"), text(b"ABCDEFxx")[1:]
+# After the first 20 groups, the next that say the name again are passed at once.
+OFTEN, NEXT = NAMED + 3 * NAMED[:1] + 3 * NAMED, OTHER_FM[3:] + 5 * OTHER_FM
+PASSED = {
+    "a name whose last segment changes": (OFTEN + NAMED[:3] + NEXT, []),
+    "the same after a segment that is repeated": (OFTEN + NAMED[:2] + NAMED[1:3] + NEXT, []),
+    "a text that ends early twice, and whose end is in doubt": (
+        20 * AB + AB[:1] + AB + 2 * AB[:1] + A_B + AB[:1] + A_B + 8 * AB[:1],
+        each([45], MEND[4]),
+    ),
+}
+
+
+@pytest.mark.parametrize("title", PASSED)
+def test_groups_that_are_passed_at_once_say_the_same_as_one_by_one(title: str) -> None:
+    """Up to 16 are read one by one."""
+    rows = rows_of(*PASSED[title])
+    assert fed(Decoder(lapses=True), rows, 16) == Decoder(lapses=True).feed(rows)
 
 
 @settings(max_examples=100, deadline=None)
