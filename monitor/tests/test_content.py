@@ -319,7 +319,7 @@ CASES: Dict[str, Case] = {
     ),
     "DAB service": Case([oda(0x0093, "12A"), group("12A", 0x10, 0, 0xD310)], {"dab_service:D310": True}),
     "one frequency": Case(name(b"PAXO 318", [0xE16A]), {"af": [98100]}, texts={"af": "98.1"}),
-    "no list": Case(name(b"PAXO 318", [0xE0CD]), {"af": []}, texts={"af": "none"}),
+    "no list": Case(name(b"PAXO 318", [0xE001]), {"af": []}, texts={"af": "none"}),
     "a list of 25": Case(
         [group("0A", k % 4, pair, 0x2020) for k, pair in enumerate([0xF901, *range(0x0203, 0x1A00, 0x0202)])],
         {"af": [*range(87600, 90001, 100)]},
@@ -445,6 +445,7 @@ A_B_C, A_B_D = text(b"AAAABBBBCCCC\r"), text(b"AAAABBBBDDDD\r", 1)
 A_X_C = text(b"AAAAXXXXCCCC\r")
 FOOTBALL, FOOTHILL = type_name(b"Football"), type_name(b"Foothill", 1)
 NUMBER, NO_HOUR, NO_MINUTE = 15 << 11 | 20 << 6 | 30, 16 << 11 | 24 << 6, 17 << 11 | 60
+NO_DAY = 20 << 6 | 31
 TMC = group("8A", 1, 2, 3)
 # Groups, an item, and all of its values in their order.
 SEQUENCES: Dict[str, Tuple[List[Words], str, List[Any]]] = {
@@ -467,11 +468,11 @@ SEQUENCES: Dict[str, Tuple[List[Words], str, List[Any]]] = {
     "half a PTYN after a turned flag": (FOOTBALL + FOOTHILL[1:], "ptyn", ["Football"]),
     "a PTYN after a turned flag": (FOOTBALL + FOOTHILL, "ptyn", ["Football", "Foothill"]),
     "a PIN that is none, and one that ends": (
-        *([label(0, 0, number) for number in (NUMBER, NO_HOUR, NO_MINUTE, 0)], "pin"),
+        *([label(0, 0, number) for number in (NUMBER, NO_HOUR, NO_MINUTE, NO_DAY)], "pin"),
         ["15 20:30", None],
     ),
     "the same of another network": (
-        *([eon(14, number) for number in (NUMBER, NO_HOUR, NO_MINUTE, 0)], "eon:D312.pin"),
+        *([eon(14, number) for number in (NUMBER, NO_HOUR, NO_MINUTE, NO_DAY)], "eon:D312.pin"),
         ["15 20:30", None],
     ),
     "paging in groups that an application has left": (

@@ -67,7 +67,8 @@ class FrequencyList:
         high, low = divmod(pair, 256)
         if self._is_beside(high, low) or any(self._is_beside(*divmod(known, 256)) for known in self._pairs):
             return self._is_beside(high, low)
-        return bool(kilohertz(high) or kilohertz(low) or high == LOW_FOLLOWS and kilohertz(low, True))
+        # A code of long or medium wave is one of VHF, too.
+        return bool(kilohertz(high) or kilohertz(low))
 
     def _is_beside(self, high: int, low: int) -> bool:
         """Whether a pair is of method B: it has the first frequency, and is none of long or medium wave."""
