@@ -40,7 +40,7 @@ def lines(rows: Rows, bounds: List[int], clock: Clock = Clock()) -> Iterator[str
         yield from redsea.lines(rows[begin:end], clock)
 
 
-def test_chunks_change_nothing(rows: Rows) -> None:
+def test_chunks_and_lines_that_are_remembered_change_nothing(rows: Rows, monkeypatch: Any) -> None:
     whole = list(lines(rows, []))
     assert (
         len(whole) > 500
@@ -50,6 +50,8 @@ def test_chunks_change_nothing(rows: Rows) -> None:
     assert list(lines(rows, list(range(1, len(rows), 5)))) == whole
     timed = [line.replace(',"rx_time"', "|").partition("|") for line in lines(rows, [], Clock(0.0))]
     assert [before + after[27:] for before, _, after in timed] == whole
+    monkeypatch.setattr("rds_monitor.content.redsea.MOST_WRITTEN", 0)
+    assert list(lines(rows, [])) == whole
 
 
 def test_times_are_told_while_the_start_is_known(rows: Rows) -> None:
