@@ -79,7 +79,7 @@ CASES: Dict[str, Case] = {
         [label(0, 0xE0)], {"ecc": "E0", "country": "de", "linkage": False}, texts={"country": "Germany"}
     ),
     "1A: linkage": Case([label(0, 0xE0, linkage=1)], {"linkage": True}),
-    "1A: ECC of no country": Case([label(0, 0xEE)], {"ecc": "EE", "country": None}),
+    "1A: ECC of no country": Case([label(0, 0xEF)], {"ecc": "EF", "country": None}),
     "1A: TMC identification": Case([label(1, 0xABC)], {"tmc_id": "ABC"}),
     "1A: paging identification": Case([label(2, 0x123)], {"paging_id": "123"}),
     "1A: language": Case([label(3, 8)], {"language": "08"}, texts={"language": "08 German"}),
@@ -474,6 +474,13 @@ SEQUENCES: Dict[str, Tuple[List[Words], str, List[Any]]] = {
     "the same of another network": (
         *([eon(14, number) for number in (NUMBER, NO_HOUR, NO_MINUTE, NO_DAY)], "eon:D312.pin"),
         ["15 20:30", None],
+    ),
+    "the same tags of a text that changes without a flag": (
+        *(
+            [RT_PLUS, *SONG, tags(1, 1, TITLE), *text(b"Work by Singer\r"), tags(1, 1, TITLE)],
+            "rt_plus:item.title",
+        ),
+        ["Song", "Work"],
     ),
     "paging in groups that an application has left": (
         *([oda(0x1234, "7A"), group("7A", 3, 1, 2), oda(0x1234, "9B"), group("7A", 3, 1, 2)], "rp"),

@@ -12,7 +12,7 @@ from hypothesis import given, settings, strategies as st
 from network import Programme
 from rds_monitor.content.decoder import Decoder, Event
 from rds_monitor.rows.items import CORRECTED, LOST
-from sent import PI, Damage, Words, clock, events_of, group, name, oda, rows_of, text, told
+from sent import PI, Damage, Words, clock, events_of, group, name, oda, rows_of, tags, text, told
 from test_contents_random import Station, damage_of
 
 NAMED = name(b"PAXO 318")
@@ -48,6 +48,9 @@ NINE = 2 * NAMED + 2 * name(b"PAXO 319") + NAMED[:1]
 AGAIN = each([11, 15], MEND[4]) + each([12, 16], LOSE[4])
 # Of the second turn only one segment is heard.
 GAP = each([5, 6, 7], *LOSE.values()) + each([0, 4, 9, 10, 11, 12], LOSE[4])
+# Of classes 1 and 32, and of class 1 alone.
+TAGGED = [*NAMED[:1], oda(0x4BD7, "11A"), *text(b"Title Album Station\r")]
+TAGGED += 2 * [tags(1, 1, (1, 0, 4), (32, 12, 6)), tags(1, 1, (1, 6, 4))]
 GUEST = NAMED + [(0xD319, *group("6A", 0, pty=5)[1:])] + NAMED
 PAXO = ["PAXO 318"]
 # By their titles, groups with their damage, the items, and the values that are told of these.
@@ -81,6 +84,9 @@ CASES: Dict[str, Tuple[List[Words], List[Tuple[int, Damage]], str, List[Any]]] =
     "a feature in corrected blocks": (TRAFFIC, each([4, 5], MEND[2]), "tmc", []),
     "a feature once in a valid block": (TRAFFIC, each([4], LOSE[4]) + each([5], MEND[2]), "tmc", []),
     "a feature in two valid blocks": (TRAFFIC, each([4, 5], LOSE[4]), "tmc", [True]),
+    "tags of two pairs of classes in turn": (
+        *(TAGGED, each(range(7, 11), LOSE[1]), "rt_plus:item.title", ["Title", "Album"]),
+    ),
     "an application by a wrong correction": (TAKEN, each([4], MEND[4]), "rt oda:1234", ["A text"]),
 }
 
