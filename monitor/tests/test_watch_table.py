@@ -25,7 +25,11 @@ ALPHA = ('name = "Alpha"', 'command = ["receiver", "-f", "98.1M"]')
 def test_defaults() -> None:
     found = table_of(stations(*ALPHA))
     (one,) = found.stations
-    assert found.folder is None and found.keep == Keep() and one.command == ("receiver", "-f", "98.1M")
+    assert (
+        found.folder is None
+        and found.keep == Keep(0, 0, 0, False)
+        and one.command == ("receiver", "-f", "98.1M")
+    )
     assert one == StationTable(
         "Alpha", one.command, "bits", patience=10, alarms=AlarmLimits(), pi=(), ps=(), af=()
     )
@@ -41,22 +45,25 @@ def test_the_longest_name() -> None:
 def test_all_of_it() -> None:
     alpha = (
         'pi = ["d318", "D218"]',
-        "af = [98.1, 104]",
+        "af = [0.153, 98.1, 107.9]",
         'ps = ["ALPHA*", "NEWS"]',
         'rt = "*"',
         "frequency = 98.1",
         'alarm_command = ["page", "{text}"]',
     )
-    limits = ("[station.alarms]", "silent = 30", "errors_percent = 5")
+    limits = ("[station.alarms]", "silent = 30", "errors = 60", "errors_percent = 5")
     beta = ("--", 'name = "Beta"', 'command = ["b"]', 'form = "iq"', "offset = -1e5")
     found = table_of(
-        'folder = "/tmp/a"\n[keep]\nlistings_days = 60\nlistings_gb = 0.5\n[defaults]\nform = "mpx"\nraw = "s16"\nrate = 171000\n'
+        'folder = "/tmp/a"\n[keep]\nlistings_days = 60\nlistings_gb = 0.5\ndatabase_days = 0\n[defaults]\nform = "mpx"\nraw = "s16"\nrate = 171000\n'
         "[defaults.alarms]\nsilent = 20\nta = false\n" + stations(*ALPHA, *alpha, *limits, *beta)
     )
     one, other = found.stations
     assert found.keep == Keep(60, 0.5, 0) and one.pi == ("D318", "D218") and one.ps == ("ALPHA*", "NEWS")
-    assert one.af == (98100, 104000)
-    assert one.alarms == AlarmLimits(silent=30, ta=None, errors_percent=5) and other.alarms.silent == 20
+    assert one.af == (153, 98100, 107900)
+    assert (
+        one.alarms == AlarmLimits(silent=30, ta=None, errors=60, errors_percent=5)
+        and other.alarms.silent == 20
+    )
     assert other.form == "iq" and other.rate == 171000 and other.offset == -1e5 and one.rt == ("*",)
     assert one.same_receiver(one) and not one.same_receiver(other)
     assert one.soft and other.soft and not found.needs_soft
@@ -123,7 +130,7 @@ def test_soft_decisions_of_the_decoder(monkeypatch: pytest.MonkeyPatch, capsys: 
         (stations('command = ["a"]'), "the station number 1 has no 'name'"),
         (stations('name = "Alpha"', 'command = "rtl_fm -f 98.1M"'), "a list of words is needed"),
         (stations('name = "Alpha"', 'command = ["a\\u0000"]'), "a list of words is needed"),
-        (stations('name = "../etc"', 'command = ["a"]'), "cannot be the name of a folder"),
+        (stations('name = ".etc"', 'command = ["a"]'), "cannot be the name of a folder"),
         (stations('name = "index"', 'command = ["a"]'), "cannot be the name of a folder"),
         (stations('name = "a/b"', 'command = ["a"]'), "cannot be the name of a folder"),
         (stations('name = "a\\nb"', 'command = ["a"]'), "cannot be the name of a folder"),
@@ -131,15 +138,19 @@ def test_soft_decisions_of_the_decoder(monkeypatch: pytest.MonkeyPatch, capsys: 
         (stations(*ALPHA, 'pi = "D31"'), "four hexadecimal digits"),
         (stations(*ALPHA, "pi = 0xD318"), "four hexadecimal digits"),
         (stations(*ALPHA, 'pi = ["D318", ""]'), "four hexadecimal digits in quotes, or a list of such"),
-        (stations(*ALPHA, "af = [981]"), "a list of frequencies in MHz"),
+        (stations(*ALPHA, "af = [108]"), "a list of frequencies in MHz"),
+        (stations(*ALPHA, "af = [98.1, 0.1]"), "a list of frequencies in MHz"),
         (stations(*ALPHA, 'form = "wav"'), "one of bits, mpx, iq"),
+        (stations(*ALPHA, 'raw = "s8"'), "one of s16, f32, u8"),
         (stations(*ALPHA, 'form = "mpx"'), "needs 'raw' and 'rate'"),
         (stations(*ALPHA, 'form = "mpx"', 'raw = "s16"'), "needs 'raw' and 'rate'"),
         (stations(*ALPHA, 'form = "iq"', "offset = 3e6"), "a number of Hz is needed"),
+        (stations(*ALPHA, 'form = "iq"', "offset = -3e6"), "a number of Hz is needed"),
         (stations(*ALPHA, 'form = "iq"', "offset = true"), "a number of Hz is needed"),
         (stations(*ALPHA, "rate = 171000"), "are for the forms mpx and iq"),
         (stations(*ALPHA, 'form = "mpx"', 'raw = "s16"', "rate = 48000"), "128000 to 20000000 samples"),
         (stations(*ALPHA, "patience = -1"), "a number that is not below 0"),
+        (stations(*ALPHA, "patience = 1e12"), "a number that is not below 0"),
         (stations(*ALPHA, "patience = true"), "a number that is not below 0"),
         (stations(*ALPHA, "[station.alarms]", "loud = 3"), "unknown key 'loud'"),
         (stations(*ALPHA, "[station.alarms]", 'silent = "15"'), "alarm silent of station 'Alpha'"),
@@ -154,6 +165,7 @@ def test_soft_decisions_of_the_decoder(monkeypatch: pytest.MonkeyPatch, capsys: 
         ("[[receiver]]\n" + stations(*ALPHA), "the receiver number 1 has no 'name'"),
         ('[[receiver]]\nname = "r"\n' + stations(*ALPHA), "receiver 'r' has no 'command'"),
         ('[[receiver]]\nname = "r"\ncommand = ["a"]\n' + stations(*ALPHA), "receiver 'r' has no 'raw'"),
+        ('[[receiver]]\nname = "r"\ncommand = ["a"]\nraw = "u8"\n' + stations(*ALPHA), "has no 'rate'"),
     ],
 )
 def test_errors(text: str, fault: str) -> None:
