@@ -76,7 +76,7 @@ def test_every_end_of_a_file(station_listing: bytes, tmp_path: Path) -> None:
     text = station_listing[: station_listing.index(b"total,")][:3000]
     path = tmp_path / "hour.csv"
     for end in (1, 20, *range(len(text) - 90, len(text))):
-        for rest in (b"", b"\0" * 40, b"\0" * 10 + b"\n", b"xyz\n"):
+        for rest in (b"", b"\0" * 40000, b"\0" * 10 + b"\n", b"xyz\n"):
             path.write_bytes(text[:end] + rest)
             whole = text[: text[:end].rfind(b"\n") + 1]
             assert make_whole(str(path)) == len(whole) and path.read_bytes() == whole
@@ -173,6 +173,19 @@ def test_an_hour_that_the_database_was_not_told_of(station_listing: bytes, tmp_p
     # It begins with the block before the one in which sync is acquired.
     begin, valid = int(rows.split(b",")[1]) - 26, int(totals.partition(b",")[0])
     assert found.fetchall() == [(f"Alpha {name}", "Alpha", 0, HOUR + 12.5, 1200.0, begin, valid)]
+    records.close()
+
+
+def test_the_last_two_hours_that_the_database_was_not_told_of(station_listing: bytes, tmp_path: Path) -> None:
+    """By when they were written, not by their names. Older ones are left alone."""
+    records, top = Records(str(tmp_path / "watch.db")), tmp_path / "listings" / "Alpha"
+    top.mkdir(parents=True)
+    for utc, start in enumerate((HOUR + 3, HOUR + 1, HOUR + 2)):
+        path = top / Hour(HOUR, start).name
+        path.write_bytes(station_listing[: station_listing.index(b"total,")])
+        os.utime(path, (utc, utc))
+    told = [os.path.join("listings", "Alpha", Hour(HOUR, HOUR + n).name) for n in (1, 2)]
+    assert recover(str(tmp_path), ["Alpha"], records) == told
     records.close()
 
 
