@@ -77,7 +77,7 @@ def replay(folder: str, opened: OpenPart, records: Records) -> None:
     known.events.clear()
     known.outages.clear()
     part.add(rows[told:])
-    end = max(opened.end, int(ends_of(rows[-1:])[0]) if len(rows) else 0)
+    end = max([opened.end, *map(int, ends_of(rows[-1:]))])
     part.close(end, last=True)
     told_again = [PartTold(opened.key, one) for one in (known, part.taken())]
     records.write([*told_again, PartGrew(opened.key, end, size, closed=True)])

@@ -47,11 +47,11 @@ def _hours(folder: str) -> Iterator[Hour]:
 
 def _too_old(hours: List[Hour], keep: Keep, utc: float, busy: Set[str]) -> Iterator[str]:
     total = sum(size for _, _, size in hours)
-    oldest = utc - keep.listings_days * DAY if keep.listings_days else 0.0
     for begin, path, size in hours:
         if path in busy or begin > utc - 2 * HOUR:
             continue
-        if begin + HOUR <= oldest or keep.listings_gb and total > keep.listings_gb * GB:
+        is_old = keep.listings_days and begin + HOUR <= utc - keep.listings_days * DAY
+        if is_old or keep.listings_gb and total > keep.listings_gb * GB:
             total -= size
             yield path
 

@@ -109,10 +109,10 @@ class Table(NamedTuple):
     folder: Optional[str]
     keep: Keep
     stations: Tuple[StationTable, ...]
-    program: Optional[str] = None  # that decodes, in place of librds
-    receivers: Tuple[ReceiverTable, ...] = ()
+    program: Optional[str]  # that decodes, in place of librds
+    receivers: Tuple[ReceiverTable, ...]
     # Whether it says `soft = true`: soft decisions by default need no decoder that has them.
-    needs_soft: bool = False
+    needs_soft: bool
 
     def hard(self) -> "Table":
         """The same without soft decisions."""
