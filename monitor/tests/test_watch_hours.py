@@ -197,8 +197,9 @@ def test_an_outage_that_lasted_when_the_watch_was_killed(station: bytes, tmp_pat
     (tmp_path / path).write_bytes(rows)
     records.write([PartOpened(key, "Alpha", Timing(HOUR), 0, path), PartGrew(key, 20000, len(rows))])
     assert recover(str(tmp_path), ["Alpha"], records) == [path]
-    ((begin, end),) = records.database.execute("SELECT begin_place, end_place FROM outage_rows").fetchall()
-    assert 16000 - 52 < begin <= 16000 and end == 20000
+    query = "SELECT begin_place, end_place, bytes FROM outage_rows JOIN hour_files USING(session)"
+    ((begin, end, size),) = records.database.execute(query).fetchall()
+    assert 16000 - 52 < begin <= 16000 and (end, size) == (20000, len(rows))
     records.close()
 
 

@@ -4,6 +4,7 @@ from __future__ import annotations
 
 import fcntl
 import gc
+import os
 import sqlite3
 import time
 from collections import deque
@@ -173,6 +174,22 @@ def test_the_last_batch_of_a_writer(tmp_path: Path) -> None:
     path = tmp_path / "listings" / "Alpha" / "it.csv"
     assert path.read_bytes() == b"row\n" and not thread.is_alive()
     assert path.stat().st_mode & 0o133 == 0
+    records.close()
+
+
+def test_what_a_writer_synchronises(tmp_path: Path, monkeypatch: pytest.MonkeyPatch) -> None:
+    """The names of a new file and its folder, and the rows: before, it takes no more. The last row closes the file."""
+    records, folders = Records(str(tmp_path / "watch.db")), list[str]()
+    one, top = Writer(str(tmp_path), records, lambda priority, text: None), str(tmp_path / "listings")
+    monkeypatch.setattr(writer, "sync_folder", folders.append)
+    fails = mock.Mock(side_effect=[OSError(5, "Input/output error"), None])
+    monkeypatch.setattr(writer.os, "fdatasync", fails)
+    one.give(Batch([Append("listings/Alpha/it.csv", b"row\n")], [], []))
+    found = [(one.work(), one.is_idle, one.fault) for _ in range(2)]
+    assert found == [(False, False, "Input/output error"), (True, True, None)]
+    assert folders == [f"{top}/Alpha", top] and len(one._hours._open) == 1
+    one.give(Batch([Append("listings/Alpha/it.csv", b"", closes=True)], [], []))
+    assert one.work() and not one._hours._open
     records.close()
 
 
@@ -480,11 +497,17 @@ def test_the_pace_of_a_watch(monkeypatch: pytest.MonkeyPatch) -> None:
     one._go_on()
     assert ticks == [100.125, 100.5, 101.0, 101.5, 103.625, 104.0] and slept == {0.1}
     assert polls == [100 + n / 8 for n in (*range(1, 13), *range(29, 33))]
+    # At its end, at 104 s, it waits for receivers and then for the disk, five seconds each.
+    one._watch, one._thread = mock.Mock(has_left=False), mock.Mock(fault="no room")
+    one._writer, one._records, one._lock = mock.Mock(), mock.Mock(), os.open(os.devnull, os.O_RDONLY)
+    assert (one._leave(), now, slept) == (1, [109.0], {0.1, 0.05})
+    assert one._thread.end.call_args == mock.call(5.0)
 
 
 def test_records_that_are_too_many(tmp_path: Path, monkeypatch: pytest.MonkeyPatch) -> None:
     """The database cannot be written while a session begins: the oldest are given up, but its part is known, and no row of its file
     is lost."""
+    assert len(writer.newest(500_001 * [RunBegan("Alpha", 0.0)])) == 500_000
     one = network(tmp_path, Air(ALPHA, START, 100))
     with monkeypatch.context() as patch:
         patch.setattr(writer, "MOST_RECORDS", 3)

@@ -8,6 +8,7 @@ import sys
 import syslog
 from pathlib import Path
 from typing import Any, List, Tuple
+from unittest import mock
 
 import pytest
 
@@ -215,29 +216,37 @@ def test_the_command_line(tmp_path: Path) -> None:
     assert run("watch").status == 2
 
 
+MINE = 'program = "mine"\nfolder = "/mine"\n'
+OTHER = ("--program", "other", "--folder", "/other")
+
+
 @pytest.mark.parametrize(
-    ("words", "text", "wanted"),
+    ("words", "text", "program", "folder"),
     [
-        ((), "", None),
-        ((), 'program = "mine"\n', "mine"),
-        (("--program", "other"), 'program = "mine"\n', "other"),
-        (("--program", "other"), "", "other"),
+        ((), "", None, "/state"),
+        ((), MINE, "mine", "/mine"),
+        (OTHER, MINE, "other", "/other"),
+        (OTHER, "", "other", "/other"),
     ],
 )
-def test_which_program_decodes(
-    words: List[str], text: str, wanted: Any, tmp_path: Path, monkeypatch: pytest.MonkeyPatch
+def test_which_program_decodes_and_where_the_watch_writes(
+    words: List[str], text: str, program: Any, folder: str, tmp_path: Path, monkeypatch: pytest.MonkeyPatch
 ) -> None:
-    """That of the command line, or else of the table, or else none."""
+    """By the command line, or else by the table, or else by librds into the first folder of systemd."""
     asked: List[Any] = []
 
     def decoder_of(program: Any, jobs: Any) -> Any:
         asked.append(program)
-        raise Fault("this is no decoder")
+        return ByProgram, "rds"
 
+    made = mock.Mock(**{"return_value.run.return_value": 3})
     monkeypatch.setattr(watch, "decoder_of", decoder_of)
+    monkeypatch.setattr(watch, "Service", made)
+    monkeypatch.setenv("STATE_DIRECTORY", "/state:/more")
     path = tmp_path / "stations.toml"
     path.write_text(text + stations(*ALPHA))
-    assert run("watch", "--folder", tmp_path, *words, path).status == 1 and asked == [wanted]
+    assert run("watch", *words, path).status == 3 and asked == [program]
+    assert made.call_args[0][0] == str(path) and made.call_args[0][2:] == (folder, 1.0)
 
 
 def test_commands_that_are_tried(tmp_path: Path) -> None:

@@ -69,7 +69,7 @@ def replay(folder: str, opened: OpenPart, records: Records) -> None:
             contents.take(event)
         contents.outages.add(before)
     part = Part(Clock(*opened.timing), opened.begin, contents)
-    rows, ends = rows_of(path) if size else (numpy.zeros(0, ITEM), [])
+    rows, ends = rows_of(path if size else os.devnull)
     told = int(numpy.searchsorted(numpy.array(ends, "i8"), opened.size, "right"))
     part.add(rows[:told])
     known = part.taken()

@@ -64,7 +64,7 @@ class HourWriter:
 
 
 def sync_folder(path: str) -> None:
-    file = os.open(path, os.O_RDONLY | os.O_DIRECTORY)
+    file = os.open(path, os.O_RDONLY)
     try:
         os.fsync(file)
     finally:
