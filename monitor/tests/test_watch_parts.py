@@ -477,8 +477,11 @@ def test_nothing_grows(tmp_path: Path, grows: bool, monkeypatch: pytest.MonkeyPa
 
 
 def test_the_pace_of_a_watch(monkeypatch: pytest.MonkeyPatch) -> None:
-    """It polls ten times a second, here each eighth, and ticks each half; of a tick that takes long no other one is made up for."""
+    """It polls ten times a second, here each eighth, and ticks each half; of a tick that takes long no other one is made up for. The table
+    is read once for a signal, and systemd hears of that. At the end it waits for receivers and for the disk, five seconds each.
+    """
     now, slept, polls, ticks = [100.0], set[float](), list[float](), list[float]()
+    heard, said = list[str](), list[Any]()
     one: Any = object.__new__(service.Service)
 
     def tick() -> None:
@@ -490,18 +493,23 @@ def test_the_pace_of_a_watch(monkeypatch: pytest.MonkeyPatch) -> None:
         now[0] += 0.125
         one._ending = now[0] >= 104
 
-    monkeypatch.setattr(service, "time", SimpleNamespace(sleep=sleep, monotonic=lambda: now[0]))
-    one._ending = one._rereading = False
+    clock = dict(sleep=sleep, monotonic=lambda: now[0], monotonic_ns=lambda: int(1e9 * now[0]) + 999)
+    monkeypatch.setattr(service, "time", SimpleNamespace(**clock))
+    monkeypatch.setattr(service, "notify", heard.append)
+    monkeypatch.setattr(service, "say", lambda *words: said.append(words))
+    one._ending, one._rereading, one._path = False, True, "/none"
     one._thread = SimpleNamespace(crash=None)
-    one._watch = SimpleNamespace(poll=lambda: polls.append(now[0]), tick=tick)
+    one._watch = SimpleNamespace(poll=lambda: polls.append(now[0]), tick=tick, reload=None)
     one._go_on()
     assert ticks == [100.125, 100.5, 101.0, 101.5, 103.625, 104.0] and slept == {0.1}
     assert polls == [100 + n / 8 for n in (*range(1, 13), *range(29, 33))]
-    # At its end, at 104 s, it waits for receivers and then for the disk, five seconds each.
+    assert heard == ["RELOADING=1\nMONOTONIC_USEC=100125000", "READY=1"] + len(ticks) * ["WATCHDOG=1"]
     one._watch, one._thread = mock.Mock(has_left=False), mock.Mock(fault="no room")
     one._writer, one._records, one._lock = mock.Mock(), mock.Mock(), os.open(os.devnull, os.O_RDONLY)
     assert (one._leave(), now, slept) == (1, [109.0], {0.1, 0.05})
     assert one._thread.end.call_args == mock.call(5.0)
+    holds = "the old table holds: '/none' cannot be read: No such file or directory"
+    assert said == [("error", holds), ("error", "rows were not written: no room")]
 
 
 def test_records_that_are_too_many(tmp_path: Path, monkeypatch: pytest.MonkeyPatch) -> None:

@@ -248,6 +248,7 @@ def test_killed_fifty_times(tmp_path: Path) -> None:
     last = Process(tmp_path, path)
     last.receives(500)
     assert last.end() == 0
+    assert ".csv: the last watch was killed; the hour is whole again\n" in last.log.read_text()
     numbers = [number for number, _ in numbers_in(hours_in(tmp_path, "Alpha"))]
     assert numbers == sorted(set(numbers)) and len(numbers) > 60
     nothing_lost(set(numbers), sent_in(tmp_path / "sent"), kills)

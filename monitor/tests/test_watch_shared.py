@@ -282,12 +282,13 @@ def test_errors(text: str, fault: str) -> None:
 
 
 def test_a_station_that_left_while_others_go_on_does_not_run() -> None:
-    """Once all have left, each runs until the receiver has ended."""
+    """Once all have left, each runs until the receiver has ended. Time passes twice as fast."""
     launch = lambda words, through: mock.Mock(**{"read.return_value": b"", "ended.return_value": None})
     shared = SharedReceiver(
-        table_of(receiver("north", "centre = 97.0") + stations(*STATION)).receivers[0], 1.0, launch, 0.0
+        table_of(receiver("north", "centre = 97.0") + stations(*STATION)).receivers[0], 2.0, launch, 0.0
     )
     taps = [shared.tap(hertz, 0.0) for hertz in (97_200_000, 97_400_000)]
+    assert [tap.patience for tap in taps] == [20.0, 20.0]
     found = []
     for tap in taps:
         tap.read(0.0)
@@ -314,12 +315,15 @@ def test_lines_wait_for_their_stations() -> None:
 def test_a_spike_in_a_channel(tmp_path: Path, centre: float, warns: bool) -> None:
     path = tmp_path / "stations.toml"
     path.write_text(
-        receiver("cat", f"centre = {centre}").replace("3200000", "2400000")
+        receiver("cat", f"centre = {centre}")
+        .replace("3200000", "2400000")
+        .replace('["cat"]', '["cat", "-u"]')
         + stations(*STATION).replace("north", "cat")
     )
     done = run("watch", "--check", path)
     assert (
         done.status == 0
-        and done.out == f"receiver cat: {centre} MHz, cat\nA: iq, soft decisions, receiver cat\n"
+        and done.out == f"receiver cat: {centre} MHz, cat -u\nA: iq, soft decisions, receiver cat\n"
     )
-    assert ("A: the centre of receiver cat" in done.err and "spike at 0 Hz" in done.err) == warns
+    told = f"A: the centre of receiver cat, {centre} MHz, is in its channel: if there is a spike at 0 Hz, choose a centre 100 kHz or more"
+    assert (told in done.err) == warns
