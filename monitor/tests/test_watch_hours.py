@@ -19,6 +19,7 @@ from conftest import rds
 from made import run
 from rds_monitor.db.parts import EventRow, MinuteRow, Told
 from rds_monitor.measures.errors import Interval
+from rds_monitor.rows.clock import start_of
 from rds_monitor.rows.hours import Hour, hour_of
 from rds_monitor.rows.listing import text_of
 from rds_monitor.watch.compress import compress
@@ -166,13 +167,15 @@ def test_an_hour_that_the_database_was_not_told_of(station_listing: bytes, tmp_p
         (tmp_path / path).with_name(other).write_text("mine")
     for told in ([path], []):
         assert recover(str(tmp_path), ["Alpha", "Beta"], records) == told
-    query = "SELECT name, station, number, start, rate, begin_place, SUM(valid) FROM recordings JOIN sessions ON recording = recordings.id"
+    query = "SELECT name, station, number, start, rate, begin_place, SUM(valid), MIN(clock_s) FROM recordings JOIN sessions ON recording = recordings.id"
     found = records.database.execute(
         f"{query} JOIN minute_rows ON session = sessions.id GROUP BY sessions.id"
     )
     # It begins with the block before the one in which sync is acquired.
     begin, valid = int(rows.split(b",")[1]) - 26, int(totals.partition(b",")[0])
-    assert found.fetchall() == [(f"Alpha {name}", "Alpha", 0, HOUR + 12.5, 1200.0, begin, valid)]
+    # It sends 2026-11-22T06:12 until 2 min 47 s after the start.
+    clock = pytest.approx(start_of("2026-11-22T06:12:00Z") - HOUR, abs=180)
+    assert found.fetchall() == [(f"Alpha {name}", "Alpha", 0, HOUR + 12.5, 1200.0, begin, valid, clock)]
     records.close()
 
 
@@ -302,7 +305,7 @@ def test_old_rows_of_the_database(tmp_path: Path) -> None:
     # The part of the new one began before what goes, and ends after it.
     for name, begin, days in (("old", HOUR - 10 * 86400, 1), ("new", HOUR - 3600, 3)):
         key, ps = PartKey(f"Alpha {name}", 0), name.upper()
-        minute = MinuteRow(0, Interval(0, 71250, 2740, 2740, 0, 0, 0), {"0A": 1}, {"ps": ps}, None, 0)
+        minute = MinuteRow(0, Interval(0, 71250, 2740, 2740, 0, 0, 0), {}, {"ps": ps}, None, 0)
         told = Told([minute], [EventRow(104, 0, "rt", f"text of {name}")], [(0, 2000)], [], [])
         alarm = AlarmChanged("Alpha", name, True, begin, "")
         start = Timing(begin - days * 86400)
