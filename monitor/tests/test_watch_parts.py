@@ -182,11 +182,10 @@ def test_what_a_writer_synchronises(tmp_path: Path, monkeypatch: pytest.MonkeyPa
     records, folders = Records(str(tmp_path / "watch.db")), list[str]()
     one, top = Writer(str(tmp_path), records, lambda priority, text: None), str(tmp_path / "listings")
     monkeypatch.setattr(writer, "sync_folder", folders.append)
-    fails = mock.Mock(side_effect=[OSError(5, "Input/output error"), None])
-    monkeypatch.setattr(writer.os, "fdatasync", fails)
+    monkeypatch.setattr(writer.os, "fdatasync", mock.Mock(side_effect=[OSError(5, "it fails"), None]))
     one.give(Batch([Append("listings/Alpha/it.csv", b"row\n")], [], []))
     found = [(one.work(), one.is_idle, one.fault) for _ in range(2)]
-    assert found == [(False, False, "Input/output error"), (True, True, None)]
+    assert found == [(False, False, "it fails"), (True, True, None)]
     assert folders == [f"{top}/Alpha", top] and len(one._hours._open) == 1
     one.give(Batch([Append("listings/Alpha/it.csv", b"", closes=True)], [], []))
     assert one.work() and not one._hours._open

@@ -249,6 +249,8 @@ def test_a_station_of_a_receiver() -> None:
     assert one.receiver is not None and one.receiver == other.receiver
     assert (one.form, one.raw, one.rate, one.patience, one.soft) == ("iq", "u8", 3200000, 10, True)
     assert [tuple(tuned) for tuned in one.receiver.tuned] == [(96600000, True), (97400000, False)]
+    words = "demod --stations --soft --raw u8 --rate 3200000 --centre 97000000 --at 96600000,97400000 --equalise 96600000"
+    assert demodulator(one.receiver)[-13:] == tuple(words.split())
     own = ('name = "C"', 'command = ["c"]', 'form = "iq"', 'raw = "u8"', "rate = 240000")
     assert table_of(stations(*own)).stations[0].equaliser
     assert not table_of(stations(*own, "equaliser = false")).stations[0].equaliser

@@ -140,7 +140,7 @@ def test_soft_decisions_of_the_decoder(monkeypatch: pytest.MonkeyPatch, capsys: 
         (stations(*ALPHA, "pi = 0xD318"), "four hexadecimal digits"),
         (stations(*ALPHA, 'pi = ["D318", ""]'), "four hexadecimal digits in quotes, or a list of such"),
         (stations(*ALPHA, "af = [108]"), "a list of frequencies in MHz"),
-        (stations(*ALPHA, "af = [98.1, 0.1]"), "a list of frequencies in MHz"),
+        (stations(*ALPHA, "af = 0.1"), "a list of frequencies in MHz"),
         (stations(*ALPHA, 'form = "wav"'), "one of bits, mpx, iq"),
         (stations(*ALPHA, 'raw = "s8"'), "one of s16, f32, u8"),
         (stations(*ALPHA, 'form = "mpx"'), "needs 'raw' and 'rate'"),
@@ -222,12 +222,7 @@ OTHER = ("--program", "other", "--folder", "/other")
 
 @pytest.mark.parametrize(
     ("words", "text", "program", "folder"),
-    [
-        ((), "", None, "/state"),
-        ((), MINE, "mine", "/mine"),
-        (OTHER, MINE, "other", "/other"),
-        (OTHER, "", "other", "/other"),
-    ],
+    [((), "", None, "/state"), ((), MINE, "mine", "/mine"), (OTHER, MINE, "other", "/other")],
 )
 def test_which_program_decodes_and_where_the_watch_writes(
     words: List[str], text: str, program: Any, folder: str, tmp_path: Path, monkeypatch: pytest.MonkeyPatch
