@@ -321,13 +321,14 @@ def test_commands_that_last() -> None:
     hooks = Hooks(lambda priority, text: None)
     for _ in range(5):
         hooks.add(("sleep", "600"))
-    hooks.work(0.0)
+    hooks.work(100.0)
     first = [process for process, _ in hooks._running]
-    hooks.work(60.0)
+    hooks.work(160.0)
+    time.sleep(0.1)  # if they were killed, they have ended
     assert len(first) == 4 and [process.poll() for process in first] == [None] * 4
-    hooks.work(60.1)
+    hooks.work(160.1)
     assert [process.wait(30) for process in first] == [-9] * 4
-    hooks.work(60.1)
+    hooks.work(160.1)
     ((last, began),) = hooks._running
     hooks.work(began + 60.1)
     assert last.wait(30) == -9
