@@ -176,6 +176,8 @@ def test_an_hour_that_the_database_was_not_told_of(station_listing: bytes, tmp_p
     # It sends 2026-11-22T06:12 until 2 min 47 s after the start.
     clock = pytest.approx(start_of("2026-11-22T06:12:00Z") - HOUR, abs=180)
     assert found.fetchall() == [(f"Alpha {name}", "Alpha", 0, HOUR + 12.5, 1200.0, begin, valid, clock)]
+    query = "SELECT value FROM event_rows JOIN facts ON facts.id = fact WHERE item = 'pi'"
+    assert records.database.execute(query).fetchall() == [("D393",)]
     records.close()
 
 
@@ -193,11 +195,13 @@ def test_the_last_two_hours_that_the_database_was_not_told_of(station_listing: b
 
 
 def test_an_outage_that_lasted_when_the_watch_was_killed(station: bytes, tmp_path: Path) -> None:
-    """From the last valid block to the last bit that the database knew of."""
-    path, records, key = "listings/Alpha/it.csv", Records(str(tmp_path / "watch.db")), PartKey("Alpha 1", 0)
+    """From the last valid block to the last bit that the database knew of. The hour before was deleted."""
+    path, records, key = "listings/Alpha/it.csv", Records(str(tmp_path / "watch.db")), PartKey("Alpha 1", 1)
     (tmp_path / path).parent.mkdir(parents=True)
     rows = rds("list", data=station[:2000] + bytes(100)).partition(b"total,")[0]
     (tmp_path / path).write_bytes(rows)
+    before = PartOpened(key._replace(number=0), "Alpha", Timing(HOUR), 0, "listings/Alpha/before.csv")
+    records.write([before, PartGrew(before.key, 0, 0, closed=True)])
     records.write([PartOpened(key, "Alpha", Timing(HOUR), 0, path), PartGrew(key, 20000, len(rows))])
     assert recover(str(tmp_path), ["Alpha"], records) == [path]
     query = "SELECT begin_place, end_place, bytes FROM outage_rows JOIN hour_files USING(session)"
