@@ -199,10 +199,10 @@ class Records:
 
     def open_parts(self) -> "List[OpenPart]":
         """The parts that no PartGrew closed, the oldest first."""
-        columns = "name, number, station, start, rate, begin_place, end_place, path, bytes"
+        columns = "name, number, start, rate, begin_place, end_place, path, bytes"
         query = f"SELECT {columns} {PARTS} WHERE is_open ORDER BY start, number"
         rows = self.database.execute(query).fetchall()
-        return [OpenPart(PartKey(row[0], row[1]), row[2], Timing(row[3], row[4]), *row[5:]) for row in rows]
+        return [OpenPart(PartKey(*row[:2]), Timing(*row[2:4]), *row[4:]) for row in rows]
 
     def path_of(self, key: PartKey) -> Optional[str]:
         row = self.database.execute(f"SELECT path {PARTS} WHERE name = ? AND number = ?", key).fetchone()
@@ -221,7 +221,6 @@ class OpenPart(NamedTuple):
     """A part that was being written when a watch was killed."""
 
     key: PartKey
-    station: str
     timing: Timing
     begin: int
     end: int
