@@ -14,7 +14,7 @@ from typing import Any, Callable, NamedTuple, NoReturn, Optional, Sequence
 from . import __doc__ as about
 from . import __version__
 from .rows.hours import take_hour
-from .rows.items import Fault, Misuse
+from .rows.items import Fault, Misuse, cause
 
 
 class Command(NamedTuple):
@@ -135,7 +135,7 @@ def main(words: Optional[Sequence[str]] = None) -> int:
     except OSError as error:
         # The output may be the fault: what Python still holds of it is not tried again.
         os.dup2(os.open(os.devnull, os.O_WRONLY), 1)
-        return _say(name, f"{error.filename or 'writing'}: {error.strerror or error}", 1)
+        return _say(name, f"{error.filename or 'writing'}: {cause(error)}", 1)
     except KeyboardInterrupt:
         return 130
 

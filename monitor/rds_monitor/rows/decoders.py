@@ -18,7 +18,7 @@ from functools import partial
 from pathlib import Path
 from typing import Any, Callable, List, Optional, Sequence, Tuple, Union
 
-from .items import Fault, Rows, Rules, Totals, joined
+from .items import Fault, Rows, Rules, Totals, cause, joined
 from .listing import SOFT_NAMES, TOTAL_NAMES, TOTAL_ROW, totals_from
 from .parse import parse
 from .soft_end import PADDING, SoftTotals, rows_before
@@ -112,7 +112,7 @@ class ByProgram(Pushed):
         try:
             self._end(memoryview(data[: (bits + 7) // 8]))
         except OSError as error:
-            raise Fault(f"{self._program}: {error.strerror or error}") from None
+            raise Fault(f"{self._program}: {cause(error)}") from None
         rows, totals = self._taken(), self._totals()
         if totals is None:
             raise Fault(self._why())
@@ -129,7 +129,7 @@ class ByProgram(Pushed):
                 words, stdin=pipe, stdout=pipe, stderr=pipe, start_new_session=True, bufsize=0
             )
         except OSError as error:
-            raise Fault(f"{self._program} cannot be started: {error.strerror or error}") from None
+            raise Fault(f"{self._program} cannot be started: {cause(error)}") from None
         streams: Any = (self._process.stdin, self._process.stdout, self._process.stderr)
         self._in, self._out, self._err = streams
         for stream in streams:

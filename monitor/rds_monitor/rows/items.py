@@ -52,6 +52,11 @@ class Misuse(Fault):
     """An error in the command line, which ends it with status 2."""
 
 
+def cause(error: OSError) -> str:
+    """The system's words for an error, or its own text if there are none."""
+    return error.strerror or str(error)
+
+
 class Rules(NamedTuple):
     """A decoder's rules, as the options --burst, --reach, --loss and --share with --of give them to rds. With a `margin`, that of
     --margin, its input is symbols, which it corrects by soft decisions."""

@@ -19,7 +19,8 @@ from ..rows.compressed import decompressed
 from ..rows.heads import is_listing
 from ..rows.hours import hour_of
 from ..rows.inputs import length_of, recording_options, rules_of
-from ..rows.items import BLOCK_BITS, CORRECTED, GROUP_BITS, VALID, Fault, Readable, Reading, Rows, Source
+from ..rows.items import BLOCK_BITS, CORRECTED, GROUP_BITS, VALID
+from ..rows.items import Fault, Readable, Reading, Rows, Source, cause
 from ..rows.listing import Listing, begins_of, ends_of, groups_in, kinds_of
 from ..rows.recording import Recording
 from .asked import judge_station
@@ -296,7 +297,7 @@ def run_check(arguments: argparse.Namespace) -> int:
     except Fault as error:
         return report(UNKNOWN, str(error))
     except OSError as error:
-        return report(UNKNOWN, f"{error.filename or 'reading'}: {error.strerror or error}")
+        return report(UNKNOWN, f"{error.filename or 'reading'}: {cause(error)}")
     except Exception as error:  # noqa: BLE001 - a plugin that dies must not look like a warning
         return report(UNKNOWN, f"{type(error).__name__}: {error}")
 

@@ -12,6 +12,7 @@ from ..db.standing import availability
 from ..rows.clock import DAY
 from ..rows.decoders import NewDecoder
 from ..rows.extent import replace
+from ..rows.items import cause
 from .alarms import Alarm, Change, Trouble, words_for
 from .compress import compress
 from .live import Append
@@ -54,7 +55,7 @@ class Hooks:
                 process = subprocess.Popen(words, stdin=null, stdout=null, start_new_session=True)
                 self._running.append((process, now))
             except OSError as error:
-                self._say("error", f"the command of an alarm, {words[0]}: {error.strerror or error}")
+                self._say("error", f"the command of an alarm, {words[0]}: {cause(error)}")
 
 
 class Watch:

@@ -8,6 +8,7 @@ from contextlib import suppress
 from typing import Any, Callable, Dict, List, Optional, Sequence
 
 from ..rows.decoders import how_ended
+from ..rows.items import cause
 
 # Linux: a pipe of a megabyte holds a second of any signal while the disk is busy.
 F_SETPIPE_SZ, PIPE_BYTES = 1031, 1 << 20
@@ -43,15 +44,13 @@ class Process:
     def read(self) -> Optional[bytes]:
         self._listen()
         parts: List[bytes] = []
-        size = 0
-        while size < MOST:
+        while sum(map(len, parts)) < MOST:
             part = self._out.read(1 << 18)
             if part is None:
                 break
             if not part:
                 return b"".join(parts) if parts else None
             parts.append(part)
-            size += len(part)
         return b"".join(parts)
 
     def _listen(self) -> None:
@@ -150,7 +149,7 @@ class Keeper:
         try:
             self._it = self._launch(self._words, self._through)
         except OSError as error:
-            self._end(now, f"cannot be started: {error.strerror or error}")
+            self._end(now, f"cannot be started: {cause(error)}")
             return None
         return b""
 

@@ -8,6 +8,7 @@ from collections import deque
 from contextlib import suppress
 from typing import Callable, Deque, Dict, Iterable, List, NamedTuple, Optional, Sequence
 
+from ..rows.items import cause
 from .live import Append
 from .records import AlarmChanged, PartOpened, Record, Records, StateSeen
 
@@ -103,7 +104,7 @@ class Writer:
             self._write_rows()
             self._write_records()
         except (OSError, sqlite3.Error) as error:
-            text = (error.strerror or str(error)) if isinstance(error, OSError) else f"the database: {error}"
+            text = cause(error) if isinstance(error, OSError) else f"the database: {error}"
             if self.fault is None:
                 self._say("error", f"rows cannot be written: {text}; they wait")
             self.fault = text
