@@ -653,7 +653,7 @@ def test_what_was_built_is_used_without_the_toolchain(
 
 
 def test_packages_that_cannot_be_made(rds: str, librds: str, tmp_path: Path, cases: Cases) -> None:
-    cases(4)
+    cases(5)
     faults = {
         "examples is no program": ["examples", librds, tmp_path],
         "there is no library in examples": [rds, "examples", tmp_path],
@@ -661,4 +661,6 @@ def test_packages_that_cannot_be_made(rds: str, librds: str, tmp_path: Path, cas
     }
     for fault, words in faults.items():
         assert run(TOP / "packaging/make_deb.sh", *words, cwd=TOP).err.decode() == f"make_deb: {fault}\n"
+    words = ["/bin/bash", TOP / "packaging/make_deb.sh", rds, librds, tmp_path]
+    assert run(*words, cwd=TOP, env={"PATH": "/none"}).err == b"make_deb: there is no dpkg here\n"
     assert run(TOP / "packaging/make_deb.sh").status == 2
