@@ -414,6 +414,26 @@ def test_the_names_of_a_minute(utc: float, names: List[str]) -> None:
     assert one.state(utc)["names"] == names
 
 
+def test_news_come_each_ten_seconds() -> None:
+    """Of a session, twice as fast, and of a station."""
+    session, one, found = LiveSession("Alpha", 2.0, mock.Mock(place=0), 0.0), station_of(mock.MagicMock()), []
+    one.alarms, one.state = mock.MagicMock(), mock.Mock()  # type: ignore[method-assign]
+    one._age = mock.Mock()  # type: ignore[method-assign]
+    session.part, session._timing = Part(Clock(0.0), 0, session.contents), Timing(0.0)
+    for seconds in (0.0, 9.9, 10.0):
+        session._tell(100 + 2 * seconds)
+        one.tick(100 + seconds, 0.0)
+        found.append((len(session.records), len(one.records)))
+    assert found == [(1, 1), (1, 1), (2, 2)]
+
+
+@pytest.mark.parametrize("ahead, is_ahead", [(5.0, False), (5.1, True)])
+def test_bits_may_be_five_seconds_ahead(ahead: float, is_ahead: bool) -> None:
+    one = station_of(mock.Mock())
+    one._session = mock.Mock(**{"arrivals.ahead": ahead})
+    assert one._is_ahead(0, 0.0) == is_ahead
+
+
 def test_what_a_station_counts() -> None:
     """All blocks, but per cent of whole minutes only; and the last minute, and the last clock time that is known."""
     one = station_of(mock.Mock(reason=""))
@@ -556,11 +576,28 @@ def test_texts_that_hold() -> None:
     ]
 
 
-def test_runs_of_a_watch_that_was_killed(tmp_path: Path) -> None:
-    """None ends before it began, though the machine's clock was set back."""
-    records = Records(str(tmp_path / "watch.db"))
-    records.write([RunBegan("Alpha", 100.0)])
-    records.end_runs(50.0)
-    rows = records.database.execute("SELECT begin_at, end_at, reason FROM run_rows").fetchall()
-    assert rows == [(100.0, 100.0, "the watch was killed")]
-    records.close()
+def test_what_a_watch_that_was_killed_left(tmp_path: Path) -> None:
+    """A run ends with the last look at its station, or else now, and none before it began, though the machine's clock was set back. Parts
+    have no byte at first; the oldest session comes first."""
+    store = Records(str(tmp_path / "watch.db"))
+    runs = {"Alpha": (100.0, 130.0), "Beta": (140.0, 150.0), "Gamma": (200.0, 200.0)}
+    for begin, look in ((90.0, 120.0), (110.0, 130.0), (125.0, 124.0)):
+        store.write([records.WatchBegan("Alpha", begin), records.StateSeen("Alpha", look, {})])
+    store.write([RunBegan(name, begin) for name, (begin, _) in runs.items()])
+    store.end_runs(150.0)
+    rows = store.database.execute("SELECT station, begin_at, end_at, reason FROM run_rows").fetchall()
+    assert rows == [(name, *run, "the watch was killed") for name, run in runs.items()]
+    rows = store.database.execute("SELECT begin_at, end_at FROM watched_rows").fetchall()
+    assert rows == [(90.0, 120.0), (110.0, 130.0), (125.0, 125.0)]
+    old, new = (
+        records.PartOpened(
+            records.PartKey(f"Alpha {start}", 2 - start), "Alpha", Timing(start), 26, f"{start}"
+        )
+        for start in (1, 2)
+    )
+    store.write([new, old])
+    assert store.open_parts() == [
+        records.OpenPart(one.key, one.timing, 26, 26, one.path, 0) for one in (old, new)
+    ]
+    assert store.database.execute("SELECT SUM(finished) FROM sessions").fetchone() == (0,)
+    store.close()

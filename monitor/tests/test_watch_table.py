@@ -266,10 +266,10 @@ def test_commands_that_are_tried(tmp_path: Path) -> None:
     ("lines", "warns"),
     [
         ([], True),
-        (["patience = 27"], True),
+        (["patience = 27.59"], True),
         # The alarm `silent` would come.
         (["patience = 30"], True),
-        (["patience = 30", "[station.alarms]", "silent = 30"], False),
+        (["patience = 30", "[station.alarms]", "silent = 27.6"], False),
         (["patience = 30", "[station.alarms]", "silent = false"], False),
         (['form = "mpx"', 'raw = "u8"', "rate = 128000"], False),
     ],
