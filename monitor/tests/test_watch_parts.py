@@ -388,6 +388,24 @@ def test_the_oldest_rows_of_a_station_are_given_up(
     assert said == [f"a: 8 {lost}", f"b: 4 {lost}"][: count - 1]
 
 
+def test_how_long_rows_waited(tmp_path: Path) -> None:
+    """The alarm of the watch before ends at once. Another one counts from when it begins."""
+    store = Records(str(tmp_path / "watch.db"))
+    store.write([records.AlarmChanged("", "disk", True, START - 60, "no room")])
+    store.close()
+    one = network(tmp_path, Air(ALPHA, START, 9), table=TABLE + "[station.alarms]\ndisk = 5\n")
+    for steady, since in ((1001, None), (1104.9, 1100), (1105, 1100), (1112, None)):
+        one.watch._unwritten_since = since
+        one.watch._judge_disk(steady)
+    wait = "rows wait to be written for 5 s"
+    assert one.said == [
+        "notice: alarm disk ends: no room; it lasted 61 s",
+        f"warning: alarm disk begins: {wait}",
+        f"notice: alarm disk ends: {wait}; it lasted 7 s",
+    ]
+    one.end()
+
+
 def station_of(keeper: Any) -> Station:
     (one,) = table_of('[[station]]\nname = "Alpha"\ncommand = ["it"]\n').stations
     return Station(one, keeper, mock.Mock(), 1.0, 100.0, mock.Mock())

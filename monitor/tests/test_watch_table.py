@@ -266,7 +266,7 @@ def test_commands_that_are_tried(tmp_path: Path) -> None:
     ("lines", "warns"),
     [
         ([], True),
-        (["patience = 27.59"], True),
+        (["patience = 27.59", "[station.alarms]", "silent = 30"], True),
         # The alarm `silent` would come.
         (["patience = 30"], True),
         (["patience = 30", "[station.alarms]", "silent = 27.6"], False),

@@ -73,6 +73,11 @@ def test_a_start_that_jumped_is_not_corrected() -> None:
     arrivals.take(int(1.6 * RATE), BEGIN + 2.2)
     assert arrivals.timing == Timing(pytest.approx(BEGIN + 0.9, abs=2e-3))
     assert arrivals.ahead == pytest.approx(0.3, abs=2e-3)
+    # It is no drift either: twenty minutes later bits still come in time.
+    for second in range(1190, 1201):
+        arrivals.take(int(second * RATE), BEGIN + second + 0.9)
+    arrivals.cut(int(1200 * RATE), BEGIN + 1200.9)
+    assert arrivals.timing.rate == RATE
 
 
 @at_each_speed
