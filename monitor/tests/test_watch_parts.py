@@ -5,6 +5,7 @@ from __future__ import annotations
 import fcntl
 import gc
 import os
+import re
 import sqlite3
 import time
 from collections import deque
@@ -363,6 +364,11 @@ def test_the_last_minute_of_a_station(tmp_path: Path) -> None:
     ((sent, valid, corrected, lost),) = one.asked(query)
     assert (state["sent"], state["valid"], state["corrected"]) == (sent, valid, corrected)
     assert 0 < corrected != lost
+    # A page tells the seconds of the day before it.
+    told = re.search(
+        r'rds_day_seconds{station="Alpha",state="received"} (\d+)', (tmp_path / "metrics.prom").read_text()
+    )
+    assert told and int(told[1]) > 30
     one.end()
 
 
