@@ -201,7 +201,7 @@ class LiveSession:
         if self.part is None:
             self._open(0, 0)
         self._advance(self._taken(), self.place, utc)
-        if totals and totals.groups:
+        if totals and (totals.groups or totals.acquired):
             text = totals_text(totals)
             self._size += len(text)
             self.appends.append(Append(self._path, text))
