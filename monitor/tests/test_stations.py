@@ -8,6 +8,7 @@ import struct
 from pathlib import Path
 from types import SimpleNamespace
 from typing import Any, Dict, List
+from unittest import mock
 
 import numpy
 import pytest
@@ -283,8 +284,8 @@ def test_names(name: str, centre: Any) -> None:
 def test_the_chunk_of_spectravue() -> None:
     """Two times, the centre, and other fields; XML that names no centre is none, however long."""
     centre = struct.pack("<I", 97950000)
-    assert centre_in_auxi(bytes(32) + centre) == centre_in_auxi(AUXI[8:]) == 97950000
-    for body in (bytes(32) + centre[:3], bytes(36), b"<a>" + bytes(29) + centre, b""):
+    assert centre_in_auxi(b"\0\0\0\0<" + bytes(27) + centre) == centre_in_auxi(AUXI[8:]) == 97950000
+    for body in (bytes(32) + centre[:3], bytes(36), b"\xef\xbb\xbf<" + bytes(28) + centre, b""):
         assert centre_in_auxi(body) is None
 
 
@@ -357,23 +358,30 @@ def test_two_that_are_too_near() -> None:
 
 
 def test_no_more_is_read_than_is_looked_at() -> None:
-    """Of parts of 0.1 s two are 0.2 s."""
-    parts = iter([numpy.zeros(12800, "c8")] * 4)
-    source = SimpleNamespace(rate=128000, full_scale=1.0, blocks=lambda: parts)
-    heard = SimpleNamespace(push=lambda bits, last=False: None)
-    stations = TunedStations(source, Tuning(0.0, 128000), lambda station: heard, [0.0])  # type: ignore[arg-type]
+    """Of parts of 0.1 s two are 0.2 s. At the end no bit is made up. Stations are looked for in 0.5 s."""
+    parts, ends = iter([numpy.zeros(12800, "c8")] * 10), list[int]()
+    source: Any = SimpleNamespace(rate=128000, full_scale=1.0, blocks=lambda: parts)
+    heard: Any = SimpleNamespace(push=lambda bits, last=False: ends.append(bits.size) if last else None)
+    stations = TunedStations(source, Tuning(0.0, 128000), lambda station: heard, [0.0])
     stations.run(0.2)
-    assert stations.seconds == 0.2 and len([*parts]) == 2
+    assert stations.seconds == 0.2 and ends == [0]
+    look = mock.Mock(side_effect=Fault("looked"))
+    with mock.patch("rds_monitor.signal.several.spectrum_of", look), pytest.raises(Fault, match="looked"):
+        TunedStations(source, Tuning(0.0, 128000), lambda station: heard).run()
+    assert look.call_args[0][0].size == 64000 and len([*parts]) == 3
 
 
-def test_lines_have_all_whole_bytes(capsys: pytest.CaptureFixture[str]) -> None:
-    """Of 70 bits 64 at once, and the rest with the next ones."""
+def test_lines_have_all_whole_bytes() -> None:
+    """Of 70 bits 64 at once, and the rest with the next ones. A line is told to the millisecond, and does not wait for the next one."""
     strength = SimpleNamespace(_asdict=lambda: {"level_dbfs": -3.0, "snr_db": 20.0})
     receiver = SimpleNamespace(quality=SimpleNamespace(recent=lambda: strength), is_soft=False)
-    writer = LineWriter(98.1e6, receiver, lambda: 1.5)  # type: ignore[arg-type]
-    for size in (70, 1, 1):
-        writer.push(numpy.ones(size, "u1"))
-    lines = [json.loads(line) for line in capsys.readouterr().out.splitlines()]
+    writer = LineWriter(98.1e6, receiver, lambda: 1.2346)  # type: ignore[arg-type]
+    with mock.patch("builtins.print") as printed:
+        for size in (70, 1, 1):
+            writer.push(numpy.ones(size, "u1"))
+    assert all(call[1] == {"flush": True} for call in printed.call_args_list)
+    lines = [json.loads(call[0][0]) for call in printed.call_args_list]
+    assert [line["seconds"] for line in lines] == [1.235, 1.235]
     assert [line["bits"] for line in lines] == [8 * "ff", "ff"] and writer.written == 72
 
 
@@ -390,7 +398,10 @@ def test_frequencies() -> None:
     for text in ("", "98.1 MHz", "nan", "1e99", "1000G"):
         with pytest.raises(Fault):
             frequency_of(text)
-    assert [str(Tuning(98e6, 600000).hertz(offset)) for offset in (0.25, 2.0)] == ["98000000.25", "98000002"]
+    assert [str(Tuning(98e6, 600000).hertz(offset)) for offset in (0.1226, 2.0)] == [
+        "98000000.123",
+        "98000002",
+    ]
     band = Tuning(97.95e6, 600000)
     assert band.offsets_of("97.75M,98.15M") == [-2e5, 2e5]
     with pytest.raises(Fault, match="98.150001M is not in the band"):

@@ -141,12 +141,10 @@ class TunedStations:
                 if self.seconds >= most:
                     break
         finally:
-            last = self._capture.finish()
+            self._push(self._capture.finish())
             if self._waits:
-                self._push(last)
                 self._settle()
-                last = [numpy.zeros(0, "u1")] * len(self.stations)
-            self._push(last, last=True)
+            self._push([numpy.zeros(0, "u1")] * len(self.stations), last=True)
 
     def _begin(self, first: Sequence[Signal]) -> None:
         source, tuning, offsets = self._source, self._tuning, list(self._named)
