@@ -20,6 +20,7 @@ from hypothesis import strategies as st
 from made import output as rds_monitor
 from modulator import Array, iq, mpx, stored, wav, words
 
+from rds_monitor.rows.items import Fault
 from rds_monitor.signal import form
 from rds_monitor.signal.pack import READERS, Conversion, bits_of, packed_of
 from rds_monitor.signal.rates import BLOCK, _by_pilot, likely_rate
@@ -182,7 +183,8 @@ def test_no_form(data: bytes, said: str, tmp_path: Path) -> None:
 def test_a_listing_is_named(tmp_path: Path, station_listing: bytes) -> None:
     for data in (station_listing, station_listing.replace(b"\n", b"\r\n"), b"\xef\xbb\xbf" + station_listing):
         (tmp_path / "it").write_bytes(data)
-        assert monitor("form", tmp_path / "it").stdout.startswith(b"a listing of rds list or rds follow")
+        done = monitor("form", tmp_path / "it")
+        assert done.stdout.startswith(b"a listing of rds list or rds follow") and done.returncode == 0
     (tmp_path / "it").write_bytes(station_listing.decode().encode("utf-16"))
     assert b"UTF-16" in monitor("form", tmp_path / "it").stderr
 
@@ -218,6 +220,16 @@ def test_signals(name: str, form: str, signal: Array, radio: Array, tmp_path: Pa
     assert int(rds("totals", data=shell(cure, tmp_path)).split(b"total,complete,")[1].split(b",")[0]) >= 45
 
 
+def test_a_wav_file_of_100_khz_is_a_signal(tmp_path: Path, monkeypatch: pytest.MonkeyPatch) -> None:
+    """Its first ten seconds are looked at."""
+    (tmp_path / "it").write_bytes(wav(bytes(8), "s16", 100000))
+    looked = unittest.mock.Mock(side_effect=Fault("looked"))
+    monkeypatch.setattr(form, "beginning_of", looked)
+    with pytest.raises(Fault, match="looked"):
+        form.forms_of(str(tmp_path / "it"), b"RIFF")
+    assert looked.call_args[0][1] == 1000000
+
+
 def test_the_largest_number_of_a_form_is_its_full_scale() -> None:
     for name in ("u8", "s16", "s24", "s32"):
         (largest,) = numbers(stored(numpy.array([3.0]), name), name)
@@ -244,7 +256,8 @@ def test_two_blocks_of_samples_tell_the_rate(signal: Array) -> None:
 def test_mpx_in_the_second_channel_and_in_flac(signal: Array, tmp_path: Path) -> None:
     both = numpy.column_stack([numpy.zeros(signal.size), signal])
     (tmp_path / "two.wav").write_bytes(wav(stored(both.ravel(), "s16"), "s16", 192000, channels=2))
-    assert forms(tmp_path / "two.wav")[0][2].startswith("rds-monitor demod --channel 2 ")
+    cures = [cure for _, _, cure in forms(tmp_path / "two.wav")]
+    assert cures[0].startswith("rds-monitor demod --channel 2 ") and "--channel 1 " not in " ".join(cures)
     for channel in (0, 3):
         done = monitor("demod", "--channel", channel, tmp_path / "two.wav")
         assert done.returncode == 1 and b"there is no channel %d of 2" % channel in done.stderr

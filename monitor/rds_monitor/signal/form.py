@@ -94,7 +94,7 @@ def signal_of(path: str, raw: str, is_iq: bool) -> Signal:
     """Some seconds from inside a file of raw samples."""
     with open(path, "rb") as file:
         file.seek(max(0, os.path.getsize(path) - SIGNAL_BYTES) // 32 * 16)
-        data = file.read(SIGNAL_BYTES // 16 * 16)
+        data = file.read(SIGNAL_BYTES)
     layout = Layout(1, 2 if is_iq else 1, raw)
     whole = data[: len(data) // layout.frame * layout.frame]
     source = StoredSamples(io.BytesIO(whole), layout, (0, 1) if is_iq else (0,))
