@@ -22,14 +22,16 @@ from made import on_a_terminal, peak_memory, run
 from measure_demod import TABLES, Words, bits_of, right, whole_groups
 from modulator import Array, dropped, iq, mpx, stored, wav, words
 
-from rds_monitor.signal.demod import no_rds
+from rds_monitor.signal.demod import no_rds, receive
 from rds_monitor.signal.outputs import QualityLine, sentence
+from rds_monitor.signal.pack import BitWriter
 from rds_monitor.signal.rates import BLOCK, COMMON, _prominence
 from rds_monitor.capture.stations import SECONDS
 from rds_monitor.signal.receiver import CARRIER_HZ, CHANNEL_HZ, RATES, Capture
 from rds_monitor.signal.soft import UNIT
 from rds_monitor.rows.items import Fault
-from rds_monitor.signal.samples import Layout, open_samples, wav_layout
+from rds_monitor.signal import samples
+from rds_monitor.signal.samples import Layout, StoredSamples, open_samples, wav_layout
 
 GROUPS = words(3, 24)  # 2.1 seconds
 SENT = encode(GROUPS)
@@ -300,8 +302,11 @@ HELP = [
     ),
     ("demod", f"the signal-to-noise ratio ({KHZ}), and the level"),
     ("demod", f"an unmodulated {CARRIER_HZ / 1000:g} kHz carrier"),
-    ("demod", "-s 171k -F 9 -f 98.1M | rds-monitor demod --raw s16 --rate 171000 | rds follow"),
-    ("demod", "-s 240k - | rds-monitor demod --iq --raw u8 --rate 240000 >"),
+    (
+        "demod",
+        "rtl_fm -M fm -l 0 -A std -p 0 -s 171k -F 9 -f 98.1M | rds-monitor demod --raw s16 --rate 171000 | rds follow",
+    ),
+    ("demod", "rtl_sdr -f 98.1M -s 240k - | rds-monitor demod --iq --raw u8 --rate 240000 >"),
     ("demod", "The exit status is 1 if there was no RDS."),
     ("stations", f"signal-to-noise ratio of RDS ({KHZ}), PI and PS"),
     ("stations", "The exit status is 1 if no station was found."),
@@ -309,7 +314,7 @@ HELP = [
         "stations",
         f"-f 98M -s 2.4M -n {2.4 * SECONDS:g}M - | rds-monitor stations --raw u8 --rate 2400000 --centre 98M",
     ),
-    ("form", "unpacked bits, bytes 0 and 1 rds-monitor pack --from bytes unknown.dat"),
+    ("form", "1922 unpacked bits, bytes 0 and 1 rds-monitor pack --from bytes unknown.dat"),
     ("form", "The exit status is 1 if no format gives two groups."),
     ("batch", "(fewer than two complete groups); then the exit status is 1."),
 ]
@@ -387,6 +392,15 @@ def test_samples_of_a_file(form: str, file: Any) -> None:
     read = numpy.concatenate([*source.blocks()]) / source.full_scale
     step = 2.0 ** -(24 if form[0] == "f" else int(form[1:]) - 1)
     assert len(read) == len(values) and abs(read - values).max() <= 2 * step
+
+
+def test_the_first_number_that_no_signal_has(monkeypatch: pytest.MonkeyPatch) -> None:
+    """In the second block of two samples. Next below 10**12 is a number of a signal."""
+    monkeypatch.setattr(samples, "FRAMES_OF_FILE", 2)
+    data = numpy.array([0, 1, -numpy.nextafter(1e12, 0), 1e12]).tobytes()
+    source = StoredSamples(io.BytesIO(data), Layout(192000, 1, "f64"), (0,))
+    with pytest.raises(Fault, match="sample 4 is 1000000000000.0: no signal has it"):
+        [*source.blocks()]
 
 
 @pytest.mark.parametrize("form", ["s16", "f32", "u8"])
@@ -534,6 +548,17 @@ def test_a_wrong_rate_of_iq_beside_the_centre() -> None:
     assert "at 500000 samples per second, but at 480000" in str(no_rds(source, signal, 150000.0))
 
 
+def test_six_seconds_are_kept_to_find_the_rate() -> None:
+    """Of eight seconds without RDS, or none of them if there is RDS."""
+    source: Any = SimpleNamespace(rate=10, blocks=lambda: iter([numpy.ones(10)] * 8))
+    for locked, size in ((0.0, 60), (1.0, 0)):
+        receiver = SimpleNamespace(quality=SimpleNamespace(locked=locked, seconds=0.0))
+        none = [numpy.zeros(0, "u1")]
+        capture: Any = SimpleNamespace(receivers=[receiver], push=lambda of: none, finish=lambda: none)
+        teller = QualityLine(argparse.Namespace(json=False, every=None), io.StringIO())
+        assert receive(source, capture, BitWriter("-", True), teller).size == size
+
+
 def test_when_reports_are_due() -> None:
     """From the first interval on, each at its end, and with the name of the station."""
     asked, stream = argparse.Namespace(json=False, every=2.0), io.StringIO()
@@ -572,6 +597,7 @@ NO_INPUTS = [
     (RAW, bytes(100), "the input is too short for a bit"),
     ("--raw s16 --rate 127999", bytes(100), "a sample rate of 127999 is not 128000 to 20000000"),
     ("--raw f32 --rate 171000", bytes(400) + b"\0\0\xc0\x7f", "sample 101 is nan: no signal has it"),
+    ("--iq --raw f32 --rate 171000", bytes(404) + b"\0\0\xc0\x7f", "sample 51 is nan: no signal has it"),
     ("", bytes(100), "the input is neither WAV nor FLAC: name its samples with --raw and --rate"),
     ("", b"fLaC" + bytes(100), "FLAC is read from a file only"),
     ("", wav(b"", "s16", 192000), "there is no sample in the input"),
