@@ -8,9 +8,11 @@ import os
 import sqlite3
 import subprocess
 import sys
-from contextlib import closing
+from contextlib import closing, nullcontext
 from pathlib import Path
+from types import SimpleNamespace
 from typing import Any, List
+from unittest import mock
 
 import numpy
 import pytest
@@ -186,6 +188,7 @@ def test_valid_blocks_that_part_two_outages(blocks: int, outages: int, database)
     groups[12:12] = [group_row(5000, WORDS), group_row(5104, WORDS[:1])][: blocks - 3]
     add("--unfinished --name it", database, data=listing(groups, False))
     assert asked(database, "SELECT COUNT(*) FROM outages") == [outages]
+    assert asked(database, "SELECT place, number FROM event_rows LIMIT 2") == [(0, 0), (0, 1)]
 
 
 def test_the_views_of_written_rows(database) -> None:
@@ -392,6 +395,18 @@ def test_what_each_version_brought() -> None:
         assert [*map(bool, there)] == [number <= version for number in range(len(added))]
 
 
+@pytest.mark.parametrize("end, tries", [(600.0, 2), (600.1, 1)])
+def test_a_database_that_is_locked(end: float, tries: int, database, monkeypatch) -> None:
+    """It is tried again every 0.02 s, for ten minutes."""
+    times, pauses = iter([0.0, end]), []
+    prepare = mock.Mock(side_effect=[sqlite3.OperationalError("database is locked"), None])
+    monkeypatch.setattr(store.Store, "_prepare", prepare)
+    monkeypatch.setattr(store, "time", SimpleNamespace(monotonic=lambda: next(times), sleep=pauses.append))
+    with nullcontext() if tries == 2 else pytest.raises(Fault, match="locked"):
+        store.Store(str(database)).close()
+    assert prepare.call_count == tries and pauses == [0.02] * (tries - 1)
+
+
 # Six processes that wait for a writer of the pipe named first, and then make a database, or end in another status than 0.
 MAKERS = """
 import os, sys
@@ -499,7 +514,9 @@ def test_two_databases_are_merged(tmp_path, station: bytes) -> None:
         ("one two all", told.format("alarm", alarm, "B", "'pi', 5, 9, 'x'")),
         ("one all", told.format("alarm", alarm, "A", "'pi', 5, NULL, 'x'")),
         ("two all", told.format("run", run_of, "B", "5, 9, 'x'")),
+        ("one all", told.format("watched", watched, "A", "0, 99")),
         ("one", told.format("watched", watched, "B", "0, 70")),
+        ("two", told.format("watched", watched, "B", "10, 20")),
         ("two", told.format("watched", watched, "B", "60, 90")),
         ("one", told.format("watched", watched, "B", "90, 95")),
         ("all", told.format("watched", watched, "B", "0, 95")),
