@@ -577,14 +577,16 @@ def locked(self: Any, records: Any) -> None:
 
 
 def test_changes_that_are_too_many() -> None:
-    """Of an item six are stored per minute, and the others counted."""
+    """Of an item six are stored per minute, and the others counted. A minute waits for two groups after it."""
     part = Part(Clock(0.0), 0, Contents(1187.5))
     for number in range(9):
         part._keep(Event(104 * number, 0xD318, "ps", str(number), None, str(number)))
-    part.pass_to(3 * 71250)
+    part.pass_to(3 * 71250 + 207)
     told = part.taken()
     assert [(event.number, event.text) for event in told.events] == [(0, text) for text in "012345"]
     assert [minute.more for minute in told.minutes] == [3, 0]
+    part.pass_to(3 * 71250 + 208)
+    assert len(part.taken().minutes) == 1
 
 
 def test_texts_that_hold() -> None:
