@@ -295,6 +295,13 @@ def test_an_item_that_is_no_longer_sent_is_one_fact(database) -> None:
     assert asked(database, "SELECT value FROM facts WHERE item = 'ecc' ORDER BY id") == ["E0", None]
 
 
+def test_a_recording_without_rds(database) -> None:
+    add("--name it", database, data=bytes(100))
+    assert asked(database, "SELECT number, begin_place, end_place, finished FROM sessions") == [
+        (0, 0, 800, 1)
+    ]
+
+
 # ---- whole or not at all
 
 

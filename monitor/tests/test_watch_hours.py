@@ -144,7 +144,11 @@ def test_options_say_more_than_a_name(station_listing: bytes, tmp_path: Path) ->
     other.write_bytes(path.read_bytes())
     assert run("db", tmp_path / "it.db", path, other).status == 0
     with sqlite3.connect(tmp_path / "it.db") as database:
-        assert [*database.execute("SELECT start FROM sessions")] == [(HOUR + 12.5,), (HOUR + 13.5,)]
+        query = (
+            "SELECT start, station FROM sessions JOIN recordings ON recordings.id = recording ORDER BY start"
+        )
+        starts = HOUR + 12.5, HOUR + 13.5
+        assert [*database.execute(query)] == [(start, tmp_path.name) for start in starts]
     # a minute by the rate of the name, or of the options
     faster = tmp_path / Hour(HOUR, HOUR + 12.5, 1200).name
     faster.write_bytes(path.read_bytes())
