@@ -593,6 +593,8 @@ RAW = "--raw s16 --rate 171000"
 # The words and the input, with the fault.
 NO_INPUTS = [
     (RAW, bytes(1001), "ends within a sample, 1 bytes after the last whole one"),
+    (RAW, bytes(1), "ends within a sample, 1 bytes after the last whole one"),
+    ("--iq --raw f32 --rate 171000", bytes(3), "ends within a sample, 3 bytes after the last whole one"),
     (RAW, b"", "there is no sample in the input"),
     (RAW, bytes(100), "the input is too short for a bit"),
     ("--raw s16 --rate 127999", bytes(100), "a sample rate of 127999 is not 128000 to 20000000"),

@@ -114,9 +114,8 @@ def numbers(data: bytes, form: str, kind: str = "f8") -> Reals:
         return numpy.frombuffer(data, stored).astype(kind)
 
 
-def channels_of(frames: int, values: Reals, channels: Tuple[int, ...]) -> Signal:
-    """One channel as real samples, or two as complex ones."""
-    table = values.reshape(frames, -1)
+def channels_of(table: Reals, channels: Tuple[int, ...]) -> Signal:
+    """One channel as real samples, or two as complex ones. The table has a row for each sample of all channels."""
     if len(channels) == 1:
         return numpy.ascontiguousarray(table[:, channels[0]])
     if channels == (0, 1) and table.shape[1] == 2:
@@ -155,7 +154,7 @@ class StoredSamples:
                 break
             frames = len(data) // layout.frame
             values = numbers(data[: frames * layout.frame], layout.form, "f4" if self.is_iq else "f8")
-            samples = channels_of(frames, values, self._channels)
+            samples = channels_of(values.reshape(-1, layout.channels), self._channels)
             if layout.form[0] == "f" and frames:
                 yield from checked(samples, read // layout.frame)
             else:
@@ -195,7 +194,7 @@ class Flac:
 
     def blocks(self) -> Iterator[Signal]:
         for frames in self._file.blocks(FRAMES_PER_BLOCK, always_2d=True):
-            yield channels_of(len(frames), frames, self._channels)
+            yield channels_of(frames, self._channels)
 
 
 # A signal: its sample rate, whether it is IQ, the sample of full scale, the frequency of the centre if known, and samples by the block.

@@ -56,7 +56,8 @@ class Demodulated(Packed):
         if not frames:
             return b""
         kind = "f8" if len(self._channels) == 1 else "f4"
-        samples = channels_of(frames, numbers(data[: frames * self._frame], self._form, kind), self._channels)
+        values = numbers(data[: frames * self._frame], self._form, kind)
+        samples = channels_of(values.reshape(frames, -1), self._channels)
         bits = [self._capture.push(block)[0] for block in checked(samples, self._samples)]
         self._samples += frames
         packed = self._packer.push(numpy.concatenate(bits))
