@@ -55,6 +55,14 @@ def test_how_high_a_pilot_is(side: int) -> None:
     assert _prominence(power, 192000) == pytest.approx(11 / 2)
 
 
+def test_where_a_pilot_may_be() -> None:
+    """With 40 bins before it, and 40 from it on."""
+    heights = [
+        _prominence(numpy.ones(size), 19000 / place * BLOCK) for place, size in ((39, 99), (40, 80), (40, 81))
+    ]
+    assert heights == [0, 0, pytest.approx(1)]
+
+
 def test_usual_rates_are_round() -> None:
     """All but the lowest one of the upper range of an RTL2832U."""
     assert [rate for rate in COMMON if rate % 100] == [900001] and [*COMMON] == sorted({*COMMON})
