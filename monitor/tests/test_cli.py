@@ -56,6 +56,7 @@ errors --bits -1                           --bits
 errors --loss 3 --share 3                  contradict each other
 errors --of 3                              --of needs --share
 errors --ever 5                            unrecognized
+errors -V                                  unrecognized arguments: -V
 programmes --least x                       'x' is no number of groups
 info --csv --json                          not allowed with
 json --rows --redsea                       not allowed with

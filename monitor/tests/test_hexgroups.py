@@ -2,9 +2,9 @@
 
 from __future__ import annotations
 
-import io
 import json
 import re
+from types import SimpleNamespace
 from typing import Any, List
 
 import numpy
@@ -23,8 +23,9 @@ from sent import group, name, text
 
 
 def read(data: bytes) -> Any:
-    """The source of lines, and its rows."""
-    source = GroupLines(io.BytesIO(data), b"")
+    """The source of lines, which come in pieces, and its rows."""
+    pieces = (data[begin : begin + 101] for begin in range(0, len(data), 101))
+    source = GroupLines(SimpleNamespace(read=lambda _: next(pieces, b"")), b"")
     assert source.length is source.totals is source.start is None
     return source, numpy.concatenate(list(source.chunks()))
 
