@@ -14,17 +14,18 @@ from rds_monitor.content.decoder import Decoder
 from rds_monitor.content.redsea import Redsea
 from rds_monitor.rows.clock import Clock
 from rds_monitor.rows.items import CORRECTED, LOST, Rows
-from sent import Damage, group, label, name, rows_of, text
+from sent import Damage, group, label, name, rows_of, text, type_name
 
 
 @pytest.fixture(scope="module")
 def rows() -> Rows:
-    """A station whose name and text change, with one bit in 200 wrong."""
+    """A station whose name, text and type's name change, with one bit in 200 wrong."""
     sent = []
     for n in range(40):
         sent += (
             name(b"NAME %3d" % (n % 2)) * 3
             + text(b"A text of many segments, number %d\r" % (n % 2)) * 4
+            + type_name(b"Type %d" % (n % 2)) * 3
             + [group("8A", n)]
         )
     bits = numpy.frombuffer(
