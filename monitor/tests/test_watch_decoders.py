@@ -15,7 +15,7 @@ from conftest import PROGRAM, TOP, encode, monitor, no_librds, rds
 from network import START, Air, Network, Plan, Programme, asked, decoders_of, hours_in, numbers_in, stations
 from rds_monitor.rows import decoders
 from rds_monitor.rows.decoders import ByLibrary, ByProgram, NewDecoder, by_program, decode, decoder_of
-from rds_monitor.rows.items import Fault
+from rds_monitor.rows.items import Fault, Rules
 from rds_monitor.rows.listing import text_of, totals_text
 from station import Periodic, encoded
 from test_watch_process import STARTED, Process, all_received, nothing_is_left, receiver, table
@@ -72,6 +72,12 @@ def test_no_bits() -> None:
     for one in (ByLibrary(), ByProgram(PROGRAM)):
         rows, totals = one.finish()
         assert not len(rows) and totals is not None and not totals.groups
+
+
+def test_the_job_of_a_program() -> None:
+    """A program may have soft decisions in another job."""
+    jobs = [ByProgram(PROGRAM, rules, soft_job="list")._words[0] for rules in (Rules(), Rules(margin=32))]
+    assert jobs == ["follow", "list"]
 
 
 # ---- a program that fails
