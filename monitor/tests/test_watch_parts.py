@@ -6,6 +6,7 @@ import fcntl
 import gc
 import os
 import re
+import socket
 import sqlite3
 import time
 from collections import deque
@@ -27,7 +28,7 @@ from rds_monitor.measures.errors import Interval
 from rds_monitor.rows.clock import Clock
 from rds_monitor.rows.items import Fault
 from rds_monitor.signal.receiver import Strength
-from rds_monitor.watch import asked, check, loop, records, service, writer
+from rds_monitor.watch import asked, check, journal, loop, records, service, writer
 from rds_monitor.watch.live import Append, LiveSession
 from rds_monitor.watch.loop import Hooks
 from rds_monitor.watch.receiver import Keeper, Process
@@ -627,3 +628,12 @@ def test_what_a_watch_that_was_killed_left(tmp_path: Path) -> None:
     ]
     assert store.database.execute("SELECT SUM(finished) FROM sessions").fetchone() == (0,)
     store.close()
+
+
+def test_systemd_may_hear_by_an_abstract_socket(monkeypatch: pytest.MonkeyPatch) -> None:
+    name = f"rds-monitor-test-{os.getpid()}"
+    monkeypatch.setenv("NOTIFY_SOCKET", f"@{name}")
+    with socket.socket(socket.AF_UNIX, socket.SOCK_DGRAM | socket.SOCK_NONBLOCK) as systemd:
+        systemd.bind(f"\0{name}")
+        journal.notify("READY=1")
+        assert systemd.recv(9) == b"READY=1"
