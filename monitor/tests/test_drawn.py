@@ -93,6 +93,8 @@ def pages(tmp_path_factory: Any) -> Path:
     rare = {f"{n}B": n + 1 for n in range(13)}
     days.mix = [[step * n, step * (n + 1), {"0A": 1 + n % 9, "2A": 2 + n % 5, **rare}] for n in range(1000)]
     days.outages = [[at, at + step, 3.5] for at in range(0, 1000 * step, 7 * step)]
+    # A clock that is a quarter of an hour ahead: ticks of four digits.
+    days.clock = [[float(step * n), 1000.0 + n % 7] for n in range(1, 1000)]
     told = told_of("days", days, (0.0, 1000.0 * step), 1774744200.0, {}, tile_of([], 900000.0, 0.0))
     (folder / "days.html").write_text(page_of("Pages", [told]), "utf-8")
     return folder
