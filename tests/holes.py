@@ -79,7 +79,7 @@ def write(path, text):
 def blanked(text):
     """The text with spaces for its comments and strings."""
     return re.sub(
-        r"//.*|\"(?:\\.|[^\"\\])*\"|'(?:\\.|[^'\\])'", lambda it: re.sub(r"[^\n]", " ", it[0]), text
+        r"//.*|\"(?:\\[\s\S]|[^\"\\])*\"|'(?:\\.|[^'\\])'", lambda it: re.sub(r"[^\n]", " ", it[0]), text
     )
 
 
