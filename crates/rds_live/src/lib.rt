@@ -78,8 +78,8 @@ mod stream_decoder; // The decoder of a stream.
 mod stream_counter; // A stream that is counted by several workers.
 mod stream_lister; // A stream that is listed by several workers.
 mod item_rows; // The rows that these make.
-mod listed_halves; // Bytes that are listed by halves.
-mod halves; // Bytes that are counted by halves.
+mod listed_pieces; // Bytes that are listed by pieces.
+mod counted_pieces; // Bytes that are counted by pieces.
 mod room; // The last bytes, and those that come after them.
 mod gaps; // The gaps of a stream, and those of a part of it.
 mod part; // A part of a stream, and the run over it.

@@ -3,7 +3,7 @@ ghost use Rattle.std.specs.Prelude.{◌≡◌, ◌≤◌, ◌<◌, ◌↔◌, �
 ghost use Rattle.rds_live.specs.{StreamDecoder.HasHeard, Next.live_next};
 
 use crate::StreamDecoder;
-use crate::halves::count_by;
+use crate::counted_pieces::count_by;
 use crate::laws::{next_is_heard, pieces_join};
 use rds_code::RdsError;
 use rds_stream::MOST_BITS;
@@ -62,9 +62,9 @@ impl<'r> StreamCounter<'r> {
     ///
     /// Refuses more than 2^36 bits in all, and has then heard nothing.
     ///
-    /// Its cost: each 2 MiB are counted by a thread for each 64 KiB, but by no more than there are workers. Each but the first goes over
-    /// 4 KiB more, and takes memory for a decoder; if that is refused, another thread does the work. Where a guess does not come into
-    /// the state of the stream within 4 KiB, its bytes are gone over once more, by one thread.
+    /// Its cost: each 2 MiB are counted by a thread for each 64 KiB, but by no more than there are workers, or 256. Each but the first goes
+    /// over 4 KiB more, and takes memory for a decoder; if that is refused, the calling thread does the work. Where a guess does not come
+    /// into the state of the stream within 4 KiB, the calling thread goes over its bytes once more.
     pub fn count<R: Threads + Sync>(
         &mut self,
         rt: &R,

@@ -7,7 +7,7 @@ ghost use Rattle.rds_live.specs.{StreamDecoder.HasHeard, StreamDecoder.IsStreamD
 use crate::StreamDecoder;
 use crate::item_rows::ItemRows;
 use crate::laws::{next_is_heard, pieces_join};
-use crate::listed_halves::list_by;
+use crate::listed_pieces::list_by;
 use crate::room::AT_ONCE;
 use crate::stream_decoder::MOST_ITEMS;
 use rds_code::RdsError;
@@ -57,8 +57,8 @@ impl<'r, T: ItemRows> StreamLister<'r, T> {
     ///
     /// Refuses more than 2^36 bits in all.
     ///
-    /// Its cost: a thread for each 16 KiB, but no more than there are workers. Each but the first goes over 4 KiB more. Where a guess
-    /// does not come into the state of the stream within 4 KiB, its bytes are gone over once more, by one thread.
+    /// Its cost: a thread for each 16 KiB, but no more than there are workers, or 256. Each but the first goes over 4 KiB more. Where a
+    /// guess does not come into the state of the stream within 4 KiB, the calling thread goes over its bytes once more.
     pub fn list<R: Threads + Sync>(
         self,
         rt: &R,
