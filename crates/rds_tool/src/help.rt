@@ -164,7 +164,7 @@ pub const OF: &str = "How many of the last blocks --share looks at,
 pub const PIECES: &str = "Cut the recording into at most N pieces, 1 or more; the
 output stays the same";
 
-pub const WORKERS: &str = "Use at most N threads, 1 to 256; the output stays
+pub const WORKERS: &str = "Work in at most N threads, 1 to 256; the output stays
 the same";
 
 pub const PROGRESS: &str = "Show progress in one line on standard error";
