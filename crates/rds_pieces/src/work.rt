@@ -6,7 +6,7 @@ ghost use Rattle.rds_pieces.specs.{Cutting.IsCutting, Cutting.pieces_of, Joining
 ghost use Rattle.rds_code.specs.declared.error.RdsError.TheVariants.{OutOfMemory};
 
 use crate::cutting::Cutting;
-use crate::joining::join_runs;
+use crate::joining::join_over;
 use crate::run::{PieceRun, speculate_into};
 use crate::stitching::stitch;
 use rds_code::RdsError;
@@ -66,8 +66,9 @@ pub trait Work {
         ensures err { IsOkUnless result OutOfMemory };
 }
 
-/// The work over a recording that is lent to it: `guess` is `speculate`, and `join` and `report` are `join_runs` and
-/// `stitch`, each on a tape of its own. It can be shared between threads.
+/// The work over a recording that is lent to it: `guess` is `speculate`, and `join` and `report` are `join_runs` and `stitch`, each on a
+/// tape of its own. But if a join finds no meeting within 32,768 places, the left run goes on over the right range alone. It can be shared
+/// between threads.
 #[derive(Drop)]
 pub struct RecordingWork<'a> {
     recording: &'a Recording,
@@ -142,8 +143,7 @@ impl Work for RecordingWork<'_> {
     }
 
     fn join(&self, alloc: Global, left: &PieceRun, right: &PieceRun) -> Result<PieceRun, RdsError> {
-        let mut tape = Counted::new(self.recording);
-        join_runs(alloc, &mut tape, self.rules, left, right)
+        join_over(alloc, self.recording, self.rules, left, right)
     }
 
     fn report(&self, alloc: Global, runs: &[PieceRun]) -> Result<Report, RdsError> {
