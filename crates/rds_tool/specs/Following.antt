@@ -1,6 +1,6 @@
 -- Following a stream: the rows that are written as it comes, and those that were written if it breaks off; this project's
 -- rule. `follow` promises it of bits, and `follow_soft` of symbols.
-use Rattle.std.specs.Prelude.{◌++◌, ◌≡◌, ◌≢◌, ◌≤◌, ◌<◌, ◌+◌, ◌-◌, ◌*◌, ◌^◌, ◌⊎◌, ◌↔◌, [], ⊤, ℕ, Bool, IfErr, IsErrOf, List, None, Ok, OnOk, Option, Result, Some, length, min, true}
+use Rattle.std.specs.Prelude.{◌++◌, ◌≡◌, ◌≢◌, ◌≤◌, ◌<◌, ◌+◌, ◌-◌, ◌*◌, ◌^◌, ◌⊎◌, ◌↔◌, [], ⊤, ℕ, Bool, IfErr, IsErrOf, List, None, Ok, OnOk, Option, Result, Some, length, max, min, true}
 use Rattle.std.specs.{List.flat_map, Io.KnownBytes.Appends, Io.KnownBytes.Consumes, Io.KnownBytes.IsAtEnd}
 use Rattle.rds_live.specs.StreamDecoder.{Terms, complete, signal_at}
 use Rattle.rds_rows.specs.declared.sink.Sink.{Ghosts as Sink}
@@ -110,7 +110,7 @@ pub record Follows {R W : Type 0} (source : Source R) (sink : Sink W) (s : Strea
 
 -- the most bytes that one read gives, by this number of workers
 abbrev pub most_read : ℕ → ℕ
-most_read workers = 65536 * (1 + min 3 (workers - 1))
+most_read workers = max 65536 (32768 * min workers 4)
 
 -- how many bits of a stream of these bytes count: the number that is claimed, if there are as many, or else
 -- all

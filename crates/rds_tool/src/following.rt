@@ -20,10 +20,10 @@ use std::alloc::Global;
 use std::thread::Threads;
 
 /// How many bytes a read asks for at most.
-const CHUNK: usize = 262_144;
+const CHUNK: usize = 131_072;
 
 /// How many bytes of a read each worker gets, as far as a read has room for.
-const SHARE: usize = 65_536;
+const SHARE: usize = 32_768;
 
 /// Follows a stream by these rules, from the reader's next byte to its end, the highest bit of a byte first:
 /// after each read it writes and flushes the rows that are complete, and at the end of input the rest of the
@@ -140,7 +140,7 @@ fn begin<'r>(
 fn read_by(workers: u32) -> usize
     ensures { result ≡ most_read workers }
 {
-    SHARE * (1 + workers.saturating_sub(1).min(3) as usize)
+    (SHARE * workers.min(4) as usize).max(65_536)
 }
 
 /// Refuses more bits than a stream may have.
@@ -157,7 +157,7 @@ pub(crate) fn check_claim(bits: Option<u64>) -> Result<(), RdsError>
 /// How many bytes the next read may ask for: none if no whole byte is left of the bits that count.
 fn room_before_end(bits: Option<u64>, place: u64) -> usize
     requires { IsPlaceOf bits place }
-    ensures few { result ≤ 262144 }
+    ensures few { result ≤ 131072 }
     ensures within { IfSome bits (λ bits. place + 8 * result ≤ bits) }
     ensures none { result ≡ 0 → IfSome bits (λ bits. bits < place + 8) × (bits ≢ None) }
 {
