@@ -47,6 +47,8 @@ TAGGED = {"rt_plus:item.title": "Song", "rt_plus:item.artist": "Singer"}
 SERVICE = dict(location_table=1, alternative_frequencies=True, mode="basic", service=11)
 SERVICE["scope"] = ["national", "regional", "urban"]
 MESSAGE = dict(event=701, location=4321, direction="negative", extent=3)
+# The longest list of frequencies.
+OF_25, ALL_OF_25 = [0xF901, *range(0x0203, 0x1A00, 0x0202)], [*range(87600, 90001, 100)]
 TRAFFIC = segments("8A", b"Traffic1", 2, 0x14)
 
 CASES: Dict[str, Case] = {
@@ -58,7 +60,7 @@ CASES: Dict[str, Case] = {
     "call letters": Case([group("6A", 0, pi=0x21C7)], {"pi": "21C7", "call_letters": "KGTB"}, {"rbds": True}),
     "no call letters but of RBDS": Case([group("6A", 0, pi=0x21C7)], {"call_letters": None}),
     "PTY of RBDS": Case([group("6A", 0)], {"pty": 10}, {"rbds": True}, {"pty": "10 Country"}),
-    "alarm": Case([group("6A", 0, pty=31)], {"pty": 31}, texts={"pty": "31 Alarm"}),
+    "alarm, no TP": Case([group("6A", 0, tp=0, pty=31)], {"tp": False, "pty": 31}, texts={"pty": "31 Alarm"}),
     "0A: PS": Case(name(b"PAXO 318"), {"ps": "PAXO 318"}),
     "0A: PS of other characters": Case(name(b"K\x97ln \x24\xab "), {"ps": "Köln ¤$"}),
     "0B: PS": Case(name(b"PAXO 318", kind="0B"), {"ps": "PAXO 318"}),
@@ -119,7 +121,11 @@ CASES: Dict[str, Case] = {
     "5A: TDC": Case([group("5A", 3, 0xFF01, 0x0203)], {"tdc:3": True}),
     "5B: TDC": Case([group("5B", 31, 0, 0x0203)], {"tdc:31": True}),
     "5A: bytes": Case([group("5A", 3, 0xFF01, 0x0203)], {"tdc_data:3": "FF 01 02 03"}, {"data": True}),
-    "5B: bytes": Case([group("5B", 31, 0, 0x0203)], {"tdc_data:31": "02 03"}, {"data": True}),
+    "5B: bytes": Case(
+        [group("5B", 31, 0, 0x0203), group("5B", 0, 0, 0x0405)],
+        {"tdc_data:31": "02 03", "tdc_data:0": "04 05"},
+        {"data": True},
+    ),
     "5A: another application, bytes": Case(
         [group("5A", 3, 1, 2), oda(0x1234, "5A"), group("5A", 3, 1, 3)], {"tdc_data:3": None}, {"data": True}
     ),
@@ -187,8 +193,8 @@ CASES: Dict[str, Case] = {
     ),
     "14A: TP": Case([eon(15, 0, tp=1)], {"eon:D312.tp": True}),
     "14A: AF": Case(
-        [eon(4, 0xE301), eon(4, 0x3264), eon(4, 0xE0CD, 0xD313)],
-        {"eon:D312.af": [87600, 92500, 97500], "eon:D313.af": []},
+        [eon(4, 0xE301), eon(4, 0x3264), eon(4, 0xE0CD, 0xD313), *(eon(4, pair, 0xD314) for pair in OF_25)],
+        {"eon:D312.af": [87600, 92500, 97500], "eon:D313.af": [], "eon:D314.af": ALL_OF_25},
         texts={"eon:D312.af": "87.6 92.5 97.5", "eon:D313.af": "none"},
     ),
     "14A: mapped frequencies": Case(
@@ -205,8 +211,11 @@ CASES: Dict[str, Case] = {
         },
     ),
     "14A: linkage": Case(
-        [eon(12, 0xC123)],
-        {"eon:D312.linkage": dict(linked=True, extended_generic=True, international=False, set=0x123)},
+        [eon(12, 0xC123), eon(12, 0x4123, 0xD313)],
+        {
+            "eon:D312.linkage": dict(linked=True, extended_generic=True, international=False, set=0x123),
+            "eon:D313.linkage": dict(linked=False, extended_generic=True, international=False, set=0x123),
+        },
         texts={"eon:D312.linkage": "linked, set 123"},
     ),
     "14A: linkage between countries": Case(
@@ -321,8 +330,7 @@ CASES: Dict[str, Case] = {
     "one frequency": Case(name(b"PAXO 318", [0xE16A]), {"af": [98100]}, texts={"af": "98.1"}),
     "no list": Case(name(b"PAXO 318", [0xE001]), {"af": []}, texts={"af": "none"}),
     "a list of 25": Case(
-        [group("0A", k % 4, pair, 0x2020) for k, pair in enumerate([0xF901, *range(0x0203, 0x1A00, 0x0202)])],
-        {"af": [*range(87600, 90001, 100)]},
+        [group("0A", k % 4, pair, 0x2020) for k, pair in enumerate(OF_25)], {"af": ALL_OF_25}
     ),
     **{
         f"a list in {turns} turns": Case(
@@ -423,6 +431,14 @@ def test_another_programme_comes_after_the_one_before_it() -> None:
     assert found == [("D318", None), (10, None), ("D319", "D318"), (10, None)]
 
 
+@pytest.mark.parametrize("more", [0, 1])
+def test_corrected_tags_of_nothing_say_nothing(more: int) -> None:
+    """All bits of their groups are 0, but for the last one."""
+    groups = [RT_PLUS, tags(0, 0, (0, 0, 0), (0, 0, more))]
+    assert told(events_of(groups, [(1, Damage(4, CORRECTED))]), "rt_plus_running") == []
+    assert told(events_of(groups), "rt_plus_running") == [False]
+
+
 @pytest.mark.parametrize("acquired, heard", [([0], [10, 11]), ([0, 1], [10])])
 @pytest.mark.parametrize("loss", [False, True])
 def test_groups_without_pi_are_of_no_programme_after_an_acquisition(
@@ -444,7 +460,7 @@ SAME = text(b"The same\r", 0) + text(b"The same\r", 1) + text(b"The same\r", 0)
 A_B_C, A_B_D = text(b"AAAABBBBCCCC\r"), text(b"AAAABBBBDDDD\r", 1)
 A_X_C = text(b"AAAAXXXXCCCC\r")
 FOOTBALL, FOOTHILL = type_name(b"Football"), type_name(b"Foothill", 1)
-NUMBER, NO_HOUR, NO_MINUTE = 15 << 11 | 20 << 6 | 30, 16 << 11 | 24 << 6, 17 << 11 | 60
+NUMBER, NO_HOUR, NO_MINUTE = 15 << 11 | 20 << 6 | 30, 1 << 11 | 24 << 6, 17 << 11 | 60
 NO_DAY = 20 << 6 | 31
 TMC = group("8A", 1, 2, 3)
 # Groups, an item, and all of its values in their order.
@@ -468,11 +484,11 @@ SEQUENCES: Dict[str, Tuple[List[Words], str, List[Any]]] = {
     "half a PTYN after a turned flag": (FOOTBALL + FOOTHILL[1:], "ptyn", ["Football"]),
     "a PTYN after a turned flag": (FOOTBALL + FOOTHILL, "ptyn", ["Football", "Foothill"]),
     "a PIN that is none, and one that ends": (
-        *([label(0, 0, number) for number in (NUMBER, NO_HOUR, NO_MINUTE, NO_DAY)], "pin"),
+        *([label(0, 0, number) for number in (NUMBER, NO_HOUR, NO_MINUTE, NUMBER, NO_DAY)], "pin"),
         ["15 20:30", None],
     ),
     "the same of another network": (
-        *([eon(14, number) for number in (NUMBER, NO_HOUR, NO_MINUTE, NO_DAY)], "eon:D312.pin"),
+        *([eon(14, number) for number in (NUMBER, NO_HOUR, NO_MINUTE, NUMBER, NO_DAY)], "eon:D312.pin"),
         ["15 20:30", None],
     ),
     "the same tags of a text that changes without a flag": (
@@ -481,6 +497,10 @@ SEQUENCES: Dict[str, Tuple[List[Words], str, List[Any]]] = {
             "rt_plus:item.title",
         ),
         ["Song", "Work"],
+    ),
+    "a part that comes after another one of its message has changed": (
+        *([label(0, 0xE0), label(0, 0xE1), label(3, 8)], "language"),
+        ["08"],
     ),
     "paging in groups that an application has left": (
         *([oda(0x1234, "7A"), group("7A", 3, 1, 2), oda(0x1234, "9B"), group("7A", 3, 1, 2)], "rp"),
@@ -644,6 +664,15 @@ LISTS = {
     "method B becomes regional": (
         10 * [0xE312, 0x1278] + 10 * [0xE312, 0x7812],
         [by_b(89300, [99500]), by_b(89300, [], [99500])],
+    ),
+    # A list by method A of three frequencies, or of two, would have such a pair.
+    "a pair without the tuned frequency in a list by method B": (
+        3 * [0xE312, 0x7812] + 3 * [0xE312, 0x3040, 0x7812],
+        [by_b(89300, [], [99500])],
+    ),
+    "a pair of medium wave in a list by method B": (
+        3 * [0xE212, 0x7812] + 3 * [0xE212, 0xFA12, 0x7812],
+        [by_b(89300, [], [99500])],
     ),
     "method B of two transmitters changes one entry": (
         10 * [*B, *OTHER] + 10 * [*B_CHANGED, *OTHER],

@@ -124,4 +124,6 @@ def test_redsea_has_no_text_of_the_flag_before() -> None:
 
     groups = [*text("Hi\r ", 0), *text("Hi\r ", 1)]
     assert texts(*groups, groups[1]) == [("A", "Hi"), ("B", "Hi"), ("B", "Hi")]
+    again = 2 * [*text("Two segs\r", 0), *text("Two segs\r", 1)]
+    assert [whole for _, whole in texts(*again)] == 4 * [None, None, "Two segs"]
     assert texts(groups[0], *text("Two segs", 1)) == [("A", "Hi"), ("B", None), ("B", None)]

@@ -279,13 +279,14 @@ def test_redsea_has_a_line_per_group_with_its_keys() -> None:
 def test_json_has_the_bytes_of_channels_and_in_house_data() -> None:
     """Each change of them; info has none."""
     one, other = group("5A", 3, 0xFF01, 0x0203), group("5A", 3, 4, 5)
-    data = bits(*name(b"PAXO 318"), one, group("6A", 1, 2, 3), one, other)
+    data = bits(*name(b"PAXO 318"), one, group("6A", 1, 2, 3), one, other, oda(0x1234, "6A"))
     told = [(entry["item"], entry["value"]) for entry in lines(said("json", data=data)) if "item" in entry]
-    found = [pair for pair in told if "_data" in pair[0]]
+    found = [pair for pair in told if "_data" in pair[0] or pair[0] == "ih"]
     assert found == [
         ("tdc_data:3", "FF 01 02 03"),
-        ("ih_data", "01 0002 0003"),
+        *(("ih", True), ("ih_data", "01 0002 0003")),
         ("tdc_data:3", "00 04 00 05"),
+        *(("ih", None), ("ih_data", None)),
     ]
     assert "FF 01" not in said("info", data=data)
 
@@ -300,7 +301,7 @@ RARE: List[Tuple[Words, Dict[str, Any]]] = [
     (label(3, 0x44), {"has_linkage": False, "language": "44"}),
     (label(3, 0x40, NO_HOUR, 1), {"has_linkage": True, "language": "Background sound, clean feed"}),
     (oda(0xCD47, "8A", 0x003F), {"tmc": (0, True, SCOPES)}),
-    (oda(0xCD46, "8A", 0x0045), {"tmc": (1, False, [SCOPES[1], SCOPES[3]])}),
+    (oda(0xCD46, "8A", 0x0041), {"tmc": (1, False, [SCOPES[3]])}),
     (group("6A", 0x1F, 0x1234, 0x5678), {"in_house_data": [0x1F, 0x1234, 0x5678]}),
     (group("6B", 3, 0xD318, 0x5678), {"in_house_data": [3, 0x5678]}),
     (eon(4, 0xE101), {"alt_frequencies": [87600]}),

@@ -5,14 +5,14 @@ from typing import Any, Dict, Iterable, List, NamedTuple, Sequence, Tuple
 import numpy
 
 from ..rows.items import BLOCKS, VALID, Rows
-from .evidence import NONE_SEEN, Array, Observations, key_of
+from .evidence import NONE_SEEN, UNKNOWN, Array, Observations, key_of
 from .fields import FIELDS, Field
 from .looks import Look, carriers, codes_of
 
 
 def payload(value: Any) -> Tuple[Any, ...]:
-    """The four words of a group from the 37 bits that it carries of its own, such as `ct`, `rtplus` and `dab`."""
-    return 0, value >> 32, value >> 16 & 0xFFFF, value & 0xFFFF
+    """The words of a group, but for the PI, from the 37 bits that it carries of its own, such as `ct`, `rtplus` and `dab`."""
+    return None, value >> 32, value >> 16 & 0xFFFF, value & 0xFFFF
 
 
 @lru_cache(None)
@@ -42,8 +42,7 @@ class Columns(NamedTuple):
 def columns_of(rows: Rows) -> Columns:
     words, kinds = (numpy.stack([rows[f"{name}{block}"] for block in BLOCKS]) for name in ("info", "kind"))
     valid, known = kinds == VALID, kinds >= VALID
-    code = numpy.where(known[1], words[1] >> 11, -1)
-    return Columns(rows["place"].astype("i8"), words, known, valid, valid.all(axis=0), code)
+    return Columns(rows["place"].astype("i8"), words, known, valid, valid.all(axis=0), words[1] >> 11)
 
 
 def among(values: Array, chosen: Sequence[int]) -> Array:
@@ -71,13 +70,13 @@ def _alike(keys: Array) -> Tuple[Array, Array]:
     table = numpy.empty(1 << 16, "i8")
     table[place] = numpy.arange(keys.size)
     one = table[place]
-    missed = (keys[one] != keys).nonzero()[0]
+    missed = numpy.flatnonzero(keys[one] != keys)
     if missed.size:
         _, first, number = numpy.unique(keys[missed], return_index=True, return_inverse=True)
         one[missed] = missed[first[number]]
     is_one = numpy.zeros(keys.size, bool)
     is_one[one] = True
-    return is_one.nonzero()[0], (numpy.cumsum(is_one) - 1)[one]
+    return numpy.flatnonzero(is_one), (numpy.cumsum(is_one) - 1)[one]
 
 
 class Groups:
@@ -90,7 +89,7 @@ class Groups:
         self.place = columns.place[chosen]
         first, self.of = _alike(_keys_of(columns)[chosen])
         alike = columns.where(chosen[first])
-        self._set(alike._replace(words=alike.words.astype("i8")), numpy.full(first.size, -1))
+        self._set(alike._replace(words=alike.words.astype("i8")), numpy.full(first.size, UNKNOWN))
 
     def _set(self, alike: Columns, application: Array) -> None:
         self.alike, self.application = alike, application

@@ -19,7 +19,7 @@ from ..rows.items import ACQUIRED, GROUP, Rows, chosen
 from . import features, names, networks, texts
 from .columns import Columns, columns_of
 from .events import ITEMS, Event, Held, Taker, Teller
-from .evidence import KIND_SHIFT, POSITION_BITS, Array, Evidence, Observations, key_of, latest
+from .evidence import KIND_SHIFT, POSITION_BITS, Array, Evidence, Observations, latest
 from .looks import Kind
 from .received import Received
 
@@ -34,7 +34,7 @@ class Programme:
 
     def __init__(self, pi: int, teller: Teller, rbds: bool, everything: bool, data: bool) -> None:
         self.pi, self._teller = pi, teller
-        plain = (*features.PLAIN, networks.Frequencies, *texts.PLAIN)
+        plain = {*features.PLAIN, networks.Frequencies, *texts.PLAIN}
         takers: List[Taker] = [taker(teller) for taker in plain]
         takers += [features.Flags(teller, rbds), features.SlowLabels(teller, pi)]
         takers += [features.Features(teller, data), networks.OtherNetworks(teller, rbds)]
@@ -110,7 +110,7 @@ class Decoder:
         for begin, end in zip(bounds, bounds[1:]):
             if begins[begin]:
                 self._begin(int(programme[begin]), int(groups.place[begin]))
-            chosen = readable[begin:end].nonzero()[0]
+            chosen = numpy.flatnonzero(readable[begin:end])
             if self.programme and chosen.size:
                 self.programme.feed(groups.where(slice(begin, end)), chosen)
 
@@ -132,13 +132,14 @@ class Decoder:
         value = numpy.where(first, groups.words[0], groups.words[2])
         sound = (~first | groups.valid[0]) & (~third | groups.valid[2])
         now = self.programme.pi if self.programme else -1
-        index = has.nonzero()[0]
+        index = numpy.flatnonzero(has)
         is_same = not (has & (value != now)).any()
         if is_same and index.size:
             sound[index[0]] = sound[index].any()  # one of them says what all do
             index = index[:1]
-        key = numpy.zeros(index.size, "i8") + key_of(0)
-        seen = Observations(key, index, value[index], groups.whole[index], sound[index])
+        seen = Observations(
+            numpy.zeros(index.size, "i8"), index, value[index], groups.whole[index], sound[index]
+        )
         counted = self._identifications.counted(seen)
         programme, begins, belongs = numpy.full(has.size, now), numpy.zeros(has.size, bool), has
         if not is_same:

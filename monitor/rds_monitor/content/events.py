@@ -1,5 +1,5 @@
 """Events, the values that hold, and how both are told."""
-from typing import Any, Dict, Iterable, List, NamedTuple, Optional, Sequence
+from typing import Any, Collection, Dict, Iterable, List, NamedTuple, Optional
 
 Value = Any
 
@@ -93,7 +93,7 @@ def _text(value: Value) -> str:
 class Taker:
     """Takes the news of some kinds."""
 
-    kinds: Sequence[int] = ()
+    kinds: Collection[int] = ()
 
     def __init__(self, teller: Teller) -> None:
         self._teller = teller

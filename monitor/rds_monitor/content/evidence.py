@@ -18,7 +18,7 @@ MOST_PARTS = 20000
 UNKNOWN = -1  # in place of a value that no part has
 
 
-def key_of(kind: int, message: Any = 0, position: Any = 0) -> Any:
+def key_of(kind: int, message: Any, position: Any) -> Any:
     return kind << KIND_SHIFT | message << POSITION_BITS | position
 
 
@@ -41,7 +41,7 @@ class Observations(NamedTuple):
         """Those of all groups, in the order of time; `of` tells for each which of the groups it is alike to."""
         count = numpy.bincount(self.at, minlength=int(of.max()) + 1)
         by_row = numpy.argsort(self.at, kind="stable")
-        at = (count > 0)[of].nonzero()[0]
+        at = numpy.flatnonzero(count[of])
         row = of[at]
         if count.max() > 1:
             times = count[row]
@@ -82,7 +82,7 @@ def latest(chosen: Array) -> Array:
 
 def _firsts(key: Array) -> Array:
     first = numpy.ones(key.size, bool)
-    numpy.not_equal(key[1:], key[:-1], out=first[1:])
+    first[1:] = key[1:] != key[:-1]
     return first
 
 
@@ -99,7 +99,7 @@ class Evidence:
         if not seen.key.size:
             return NOTHING
         seen = seen.by_key()
-        starts = _firsts(seen.key).nonzero()[0]
+        starts = numpy.flatnonzero(_firsts(seen.key))
         parts = [self.parts.get(name) for name in seen.key[starts].tolist()]
         if not everything:
             seen = seen.where(self._are_open(seen, starts, parts, of))
@@ -127,14 +127,14 @@ class Evidence:
         other = seen.value != numpy.repeat(held, sizes)
         may_change = numpy.logical_or.reduceat(other & (seen.whole | seen.sound), starts)
         may_change |= numpy.array(held) == UNKNOWN
-        bounds = _firsts(message).nonzero()[0]
+        bounds = numpy.flatnonzero(_firsts(message))
         is_open = numpy.logical_or.reduceat(may_change, bounds)
         is_open = numpy.repeat(is_open, numpy.diff(bounds, append=message.size))
         trusted = numpy.array([part is not None and part.trusted for part in parts])
         is_noted = numpy.logical_or.reduceat(other | seen.sound & ~numpy.repeat(trusted, sizes), starts)
         latest = numpy.zeros(int(of.max()) + 1, "i8")
         latest[of] = numpy.arange(of.size)
-        for at in (is_noted & ~is_open).nonzero()[0].tolist():
+        for at in numpy.flatnonzero(is_noted & ~is_open).tolist():
             rows = slice(starts[at], starts[at] + sizes[at])
             self._note(seen.where(rows), other[rows], latest, bool(trusted[at]))
         return numpy.repeat(is_open, sizes)
@@ -189,7 +189,7 @@ class Evidence:
     def _changed(self, counted: News) -> Array:
         """Which values differ from the one of the part that counted before."""
         changed = numpy.ones(counted.key.size, bool)
-        numpy.not_equal(counted.value[1:], counted.value[:-1], out=changed[1:])
+        changed[1:] = counted.value[1:] != counted.value[:-1]
         starts = numpy.flatnonzero(_firsts(counted.key))
         changed[starts] = [
             self.parts[name].counted not in (None, value)
@@ -217,7 +217,7 @@ class Evidence:
         first = _firsts(counted.key)
         starts = numpy.flatnonzero(first)
         fresh = numpy.ones(first.size, bool)
-        numpy.not_equal(state[1:], state[:-1], out=fresh[1:])
+        fresh[1:] = state[1:] != state[:-1]
         names = counted.key[starts].tolist()
         fresh[starts] = [self.parts[name].state != now for name, now in zip(names, state[starts].tolist())]
         ends = numpy.append(starts[1:], first.size) - 1
@@ -238,12 +238,12 @@ class Epochs:
     @property
     def last(self) -> Tuple[int, int]:
         """The flag and the number of the message after them."""
-        return int(self._flags[-1]), int(self._numbers[-1]) & 0xFFFFFF
+        return int(self._flags[-1]), int(self._numbers[-1])
 
     def flag(self, at: Array) -> Array:
         """The flag that holds in each of these groups; that of a group holds from itself on."""
         return self._flags[numpy.searchsorted(self._at, at, side="right")]
 
     def number(self, at: Array) -> Array:
-        number: Array = self._numbers[numpy.searchsorted(self._at, at, side="right")] & 0xFFFFFF
+        number: Array = self._numbers[numpy.searchsorted(self._at, at, side="right")]
         return number

@@ -1,8 +1,8 @@
 """Flags, codes and features: what a group says by itself."""
 import datetime
-from typing import Any, Dict, Optional, Tuple
+from typing import Any, Dict, Optional
 
-from ..rows.clock import DAY, EPOCH_MJD
+from ..rows.clock import EPOCH_MJD
 from . import names
 from .columns import fields_of, payload
 from .events import Taker, Teller
@@ -14,7 +14,7 @@ DI_BITS = ("di_dynamic_pty", "di_compressed", "di_artificial_head", "di_stereo")
 class Flags(Taker):
     """All groups: TP and PTY. Groups 0A, 0B and 15B: TA, music or speech, and decoder identification."""
 
-    kinds = (Kind.TP_PTY, Kind.TA_MS, Kind.DI)
+    kinds = {Kind.TP_PTY, Kind.TA_MS, Kind.DI}
 
     def __init__(self, teller: Teller, rbds: bool) -> None:
         super().__init__(teller)
@@ -44,7 +44,7 @@ LABELS = {1: "tmc_id", 2: "paging_id", 6: "broadcaster_bits", 7: "ews_channel"}
 class SlowLabels(Taker):
     """Groups 1A and 1B: programme item number and slow labelling codes."""
 
-    kinds = (Kind.PIN, Kind.LINKAGE, Kind.LABEL)
+    kinds = {Kind.PIN, Kind.LINKAGE, Kind.LABEL}
 
     def __init__(self, teller: Teller, pi: int) -> None:
         super().__init__(teller)
@@ -74,15 +74,15 @@ def clock_time(value: int) -> Optional[datetime.datetime]:
     day, hour, minute, sign, half_hours = fields_of("ct", value, "day hour minute sign half_hours")
     if hour > 23 or minute > 59 or day < EPOCH_MJD:
         return None
-    seconds = (day - EPOCH_MJD) * DAY + hour * 3600 + minute * 60
+    time = datetime.datetime(1970, 1, 1, hour, minute, tzinfo=datetime.timezone.utc)
     offset = datetime.timedelta(minutes=30 * half_hours * (-1 if sign else 1))
-    return datetime.datetime.fromtimestamp(seconds, datetime.timezone(offset))
+    return (time + datetime.timedelta(day - EPOCH_MJD)).astimezone(datetime.timezone(offset))
 
 
 class ClockTime(Taker):
     """Group 4A: clock time and date. It never comes twice alike, so it needs a valid group."""
 
-    kinds = (Kind.CT,)
+    kinds = {Kind.CT}
 
     def take(self, kind: int, message: int, position: int, value: int) -> None:
         time = clock_time(value)
@@ -93,7 +93,7 @@ class ClockTime(Taker):
 class OpenData(Taker):
     """Group 3A: which application is carried by which group type, and the service of TMC."""
 
-    kinds = (Kind.ODA, Kind.ODA_MESSAGE)
+    kinds = {Kind.ODA, Kind.ODA_MESSAGE}
 
     def __init__(self, teller: Teller) -> None:
         super().__init__(teller)
@@ -136,15 +136,16 @@ class Features(Taker):
     """Groups 5A to 9A and 13A that no application has: which features are there, and the data of EWS; with `data` those
     of transparent channels and of the operator's own."""
 
-    kinds: Tuple[Kind, ...] = (Kind.CHANNEL, Kind.EWS, Kind.ODA)
+    kinds = {Kind.CHANNEL, Kind.EWS, Kind.ODA}
     features = {"6A": "ih", "6B": "ih", "7A": "rp", "8A": "tmc", "13A": "erp"}
 
     def __init__(self, teller: Teller, data: bool) -> None:
         super().__init__(teller)
-        self.kinds += (Kind.TDC_DATA, Kind.IH_DATA) * data
+        if data:
+            self.kinds = self.kinds | {Kind.TDC_DATA, Kind.IH_DATA}
 
     def take(self, kind: int, message: int, position: int, value: int) -> None:
-        if kind in (Kind.TDC_DATA, Kind.IH_DATA):
+        if kind in {Kind.TDC_DATA, Kind.IH_DATA}:
             self._take_data(kind, position, value)
         elif kind == Kind.EWS:
             first, *rest = payload(value)[1:]
@@ -168,7 +169,9 @@ class Features(Taker):
     def _assigned(self, aid: int, group: str) -> None:
         """An application has this group type, which is no such feature then."""
         if group in ("5A", "5B"):
-            self._teller.drop([item for item in self._teller.held if item.startswith(("tdc:", "tdc_data:"))])
+            self._teller.drop(
+                [item for item in self._teller.held if item.partition(":")[0] in {"tdc", "tdc_data"}]
+            )
         elif group in self.features and not (group == "8A" and aid in TMC):
             self._teller.drop([self.features[group], *["ih_data"] * (group in ("6A", "6B"))])
 
@@ -176,7 +179,7 @@ class Features(Taker):
 class TrafficMessages(Taker):
     """Group 8A: user messages of TMC (ISO 14819-1), by their numbers: the first group of each."""
 
-    kinds = (Kind.TMC_MESSAGE,)
+    kinds = {Kind.TMC_MESSAGE}
 
     def take(self, kind: int, message: int, position: int, value: int) -> None:
         event, location, negative, extent = fields_of("tmc", value, "event location direction extent")
@@ -193,7 +196,7 @@ class TrafficMessages(Taker):
 class DabLink(Taker):
     """EN 301 700: DAB ensembles and services that belong to the programme."""
 
-    kinds = (Kind.DAB, Kind.DAB_SERVICE)
+    kinds = {Kind.DAB, Kind.DAB_SERVICE}
 
     def take(self, kind: int, message: int, position: int, value: int) -> None:
         if kind == Kind.DAB_SERVICE:
@@ -206,4 +209,4 @@ class DabLink(Taker):
         self._tell(f"dab:{16 * frequency / 1000:.3f}", found, shown)
 
 
-PLAIN = (ClockTime, OpenData, TrafficMessages, DabLink)  # those that need only the teller
+PLAIN = {ClockTime, OpenData, TrafficMessages, DabLink}  # those that need only the teller

@@ -113,7 +113,7 @@ def _transmitter(found: Dict[str, Any]) -> str:
 class Frequencies(Taker):
     """Groups 0A: alternative frequencies, the message being the head of their list."""
 
-    kinds = (Kind.AF,)
+    kinds = {Kind.AF}
 
     def __init__(self, teller: Teller) -> None:
         super().__init__(teller)
@@ -134,7 +134,7 @@ class Frequencies(Taker):
 class OtherNetworks(Taker):
     """Groups 14A and 14B: other networks, the message being their PI."""
 
-    kinds = tuple(kind for kind in Kind if kind.name.startswith("EON_"))
+    kinds = {kind for kind in Kind if kind.name.startswith("EON_")}
 
     def __init__(self, teller: Teller, rbds: bool) -> None:
         super().__init__(teller)

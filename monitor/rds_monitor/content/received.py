@@ -1,5 +1,5 @@
 """The news in the groups of one programme: which values changed, and which names and texts became whole or ended."""
-from typing import Dict, Iterator, List, NamedTuple, Optional, Sequence, Tuple
+from typing import Any, Dict, Iterator, List, NamedTuple, Optional, Sequence, Tuple
 
 import numpy
 
@@ -139,7 +139,9 @@ class Messages:
             own = epochs.flag(at) == flags[number]
             at, number, generation = at[own], number[own], (generation | epochs.number(at))[own]
         for one, start, end in zip(names.tolist(), starts.tolist(), [*starts[1:].tolist(), rows.size]):
-            chosen = ((number >= start) & (number < end)).nonzero()[0] if look.message else slice(None)
+            chosen: Any = slice(None)
+            if look.message:
+                chosen = numpy.flatnonzero((number >= start) & (number < end))
             of = at[chosen]
             rest = run[of], generation[chosen], said[start:end]
             part = Segments(groups.place[of], number[chosen] - start, *rest)

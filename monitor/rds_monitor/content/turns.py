@@ -119,7 +119,7 @@ class Turns:
         self.turn = numpy.cumsum(self.missed | (self.segment <= self.before))
         # Where a turn of a text begins anew, and the group before was read.
         is_read = self.run == numpy.append(run, self.run[:-1])
-        self.restarts = ((self.segment == 0) & is_read & (self.before >= 0) & is_text).nonzero()[0]
+        self.restarts = numpy.flatnonzero((self.segment == 0) & is_read & (self.before >= 0) & is_text)
 
     def rows(self, begin: int, end: int) -> List[Row]:
         columns = (self.place, self.number, self.run, self.missed)
@@ -227,7 +227,7 @@ class Message:
         """
         if not groups.place.size:
             return
-        changes = steps_of(groups.generation, self._generation).nonzero()[0].tolist()
+        changes = numpy.flatnonzero(steps_of(groups.generation, self._generation)).tolist()
         for begin, end in zip([0, *changes], [*changes, groups.place.size]):
             if begin == end:
                 continue
