@@ -10,7 +10,7 @@ import pytest
 
 import sent
 from conftest import encode
-from rds_monitor.content import evidence, received
+from rds_monitor.content import columns, evidence, received
 from rds_monitor.content.decoder import ITEMS, Decoder, Event
 from rds_monitor.content.looks import name_of
 from rds_monitor.content.networks import FrequencyList
@@ -708,6 +708,16 @@ def test_another_method_replaces_the_list() -> None:
 
 def test_a_wrong_pair_does_not_stay() -> None:
     assert lists(4 * A + [0xE50A, 0x1E32, 0x9999, 0x465A] + 6 * A)[-1] == ALL_OF_A
+
+
+# ---- groups that are alike
+
+
+def test_groups_that_are_alike_have_one_number() -> None:
+    """A hash of 16 bits finds them: of so many keys, each of which comes twice, a hundred have that of another."""
+    keys = numpy.random.default_rng(1).integers(0, 1 << 54, 1 << 12).repeat(2)
+    rows, number = columns._alike(keys)
+    assert (keys[rows][number] == keys).all() and len(rows) == 1 << 12
 
 
 # ---- parts and names that noise begins are forgotten
