@@ -255,7 +255,7 @@ def redsea(*groups: Words, data: bytes = b"") -> List[Dict[str, Any]]:
 
 def test_redsea_has_a_line_per_group_with_its_keys() -> None:
     groups = [*name(b"PAXO 318", [0xE301, 0xFA01, 0xCCCD]), label(0, 0xE0, PIN), label(3, 8)]
-    groups += [*text(b"Song by Singer\r"), oda(0x4BD7, "11A"), tags(1, 1, (1, 0, 3), (4, 8, 5))]
+    groups += [*text(b"Song by Singer\r"), oda(0x4BD7, "11A"), tags(0, 1, (1, 0, 3), (4, 8, 5))]
     groups.append(clock(61128, 1, 30, 4))
     found = redsea(*groups)
     assert len(found) == len(groups)
@@ -270,7 +270,7 @@ def test_redsea_has_a_line_per_group_with_its_keys() -> None:
         5: dict(language="German"),
         9: dict(radiotext="Song by Singer", rt_ab="A"),
         10: dict(open_data_app=dict(oda_group="11A", app_name="RadioText Plus (RT+)", message=0)),
-        11: dict(radiotext_plus=dict(item_running=True, item_toggle=1, tags=song)),
+        11: dict(radiotext_plus=dict(item_running=True, item_toggle=0, tags=song)),
         12: dict(clock_time="2026-03-29T03:30:00+02:00"),
     }
     assert {k: {key: found[k][key] for key in keys} for k, keys in wanted.items()} == wanted
@@ -302,7 +302,7 @@ RARE: List[Tuple[Words, Dict[str, Any]]] = [
     (label(3, 0x40, NO_HOUR, 1), {"has_linkage": True, "language": "Background sound, clean feed"}),
     (oda(0xCD47, "8A", 0x003F), {"tmc": (0, True, SCOPES)}),
     (oda(0xCD46, "8A", 0x0041), {"tmc": (1, False, [SCOPES[3]])}),
-    (group("6A", 0x1F, 0x1234, 0x5678), {"in_house_data": [0x1F, 0x1234, 0x5678]}),
+    (group("6A", 0x1F, 0x1235, 0x5679), {"in_house_data": [0x1F, 0x1235, 0x5679]}),
     (group("6B", 3, 0xD318, 0x5678), {"in_house_data": [3, 0x5678]}),
     (eon(4, 0xE101), {"alt_frequencies": [87600]}),
     (eon(5, 0x0102), {"kilohertz": 87700}),
@@ -317,6 +317,7 @@ RARE: List[Tuple[Words, Dict[str, Any]]] = [
     (eon(14, PIN), {"prog_item_number": PIN, "prog_item_started": {"day": 15, "time": "20:30"}}),
     (eon(14, NO_HOUR), {"prog_item_number": NO_HOUR}),
     (group("6A", 0, pty=0), {"in_house_data": [0, 0, 0], "prog_type": "No PTY"}),
+    (group("7A", 0, tp=0, pty=17), {"tp": False, "prog_type": "Finance"}),
 ]
 
 

@@ -14,7 +14,7 @@ from rds_monitor.content.decoder import Decoder
 from rds_monitor.content.redsea import Redsea
 from rds_monitor.rows.clock import Clock
 from rds_monitor.rows.items import CORRECTED, LOST, Rows
-from sent import Damage, group, label, name, rows_of, text, type_name
+from sent import Damage, group, label, name, rows_of, segments, text, type_name
 
 
 @pytest.fixture(scope="module")
@@ -26,7 +26,8 @@ def rows() -> Rows:
             name(b"NAME %3d" % (n % 2)) * 3
             + text(b"A text of many segments, number %d\r" % (n % 2)) * 4
             + type_name(b"Type %d" % (n % 2)) * 3
-            + [group("8A", n)]
+            + segments("8A", b"Service%d" % (n % 2), 2, 0x14)
+            + [group("8A", n), group("8A", 15, 701, 4321)]
         )
     bits = numpy.frombuffer(
         rds("encode", data="".join("%04X%04X%04X%04X\n" % tuple(words) for words in sent).encode()), "u1"
@@ -69,6 +70,21 @@ def test_the_text_of_a_group_is_made_once(rows: Rows, monkeypatch: Any) -> None:
     monkeypatch.setattr(Redsea, "_text_of", lambda self, group: made.append(group) or text_of(self, group))
     changes = len(Decoder(lapses=True).feed(rows))
     assert len(list(lines(rows, []))) > len(made) and len(made) <= len(set(made)) + 2 * changes
+
+
+def test_lines_of_in_house_data_are_not_remembered() -> None:
+    """They are seldom alike. Those of all other types are, and all of them are told if a block was corrected."""
+    redsea = Redsea(Decoder(lapses=True))
+    sent = [*name(b"NAME"), *(group(f"{kind}{version}", 0) for version in "AB" for kind in range(16))]
+    found = redsea.lines(rows_of(2 * sent, [(10, Damage(4, CORRECTED))]), Clock())
+    assert {words >> 44 & 0xF for words in redsea._written} == {*range(16)} - {6}
+    assert ["in_house_data" in line for line in found[: len(sent)]] == [k in (10, 26) for k in range(36)]
+
+
+def test_a_text_that_is_whole_again_at_once_is_written() -> None:
+    """Two turns tell how long it is. Signs after that end it, and all of it has come in this turn."""
+    found = lines(rows_of([*name(b"NAME"), *6 * text(b"Hi.."), text(b"Hi..more")[1]]), [])
+    assert ['"radiotext":"Hi.."' in line for line in found][4:] == 2 * [False] + 5 * [True]
 
 
 @pytest.mark.parametrize(

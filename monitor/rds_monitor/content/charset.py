@@ -49,7 +49,7 @@ def decode(codes: bytes) -> str:
 @lru_cache(4096)
 def _is_unsafe(sign: str) -> bool:
     """Whether a character moves the cursor, turns the direction of writing, has no shape, or is unassigned."""
-    return unicodedata.category(sign) in ("Cc", "Cf", "Cs", "Co", "Cn", "Zl", "Zp")
+    return unicodedata.category(sign) in {"Cc", "Cf", "Cs", "Co", "Cn", "Zl", "Zp"}
 
 
 def _escaped(sign: str) -> str:

@@ -33,7 +33,7 @@ def label(item: str) -> str:
     if name == "eon":
         network, _, rest = of.partition(".")
         shown = rest.replace(":", " ")
-        return f"EON {network} {shown if rest.startswith('mapped') else shown.replace('.', ' ').upper()}"
+        return f"EON {network} {shown if rest.startswith('mapped') else shown.upper()}"
     return f"{LABELS.get(name, name.upper())} {of}".rstrip()
 
 

@@ -106,7 +106,7 @@ def _sync_object(what: int, place: int, number: int, clock: Clock) -> Dict[str, 
 
 def row_objects(rows: Rows, clock: Clock) -> Iterator[Dict[str, Any]]:
     for row in rows.tolist():
-        place, blocks, (what, number, version, conflict) = row[0], row[1:17], row[17:21]
+        place, blocks, (what, number, version, conflict) = row[0], row[1:17], row[17:]
         if what in (ACQUIRED, LOSS):
             yield _sync_object(what, place, number, clock)
         else:

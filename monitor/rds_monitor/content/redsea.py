@@ -26,14 +26,21 @@ TIME = "\0"  # the time's place in a line, in which no control is
 # The segment in which a name or text is written, besides the group in which it changes: of these bits of block 2.
 WRITTEN_IN = {"ps": (3, 3), "rt": (0xF, 0)}
 # The group types that tell an item, but for the group in which it changes.
-TOLD_IN = {
-    **dict.fromkeys("di_dynamic_pty di_compressed di_artificial_head di_stereo ps af".split(), "0A 0B 15B"),
-    **dict.fromkeys("pin country tmc_id language".split(), "1A 1B"),
-    **{"rt": "2A 2B", "rt_ab": "2A 2B", "oda": "3A", "tmc_service": "3A", "ct": "4A", "tdc": "5A 5B"},
-    **{"tmc_provider": "8A", "tmc_message": "8A", "ptyn": "10A", "eon": "14A 14B", "lps": "15A"},
+_TELL = {
+    "0A 0B 15B": "di_dynamic_pty di_compressed di_artificial_head di_stereo ps af",
+    "1A 1B": "pin country tmc_id language",
+    "2A 2B": "rt rt_ab",
+    "3A": "oda tmc_service",
+    "4A": "ct",
+    "5A 5B": "tdc",
+    "8A": "tmc_provider tmc_message",
+    "10A": "ptyn",
+    "14A 14B": "eon",
+    "15A": "lps",
 }
+TOLD_IN = {item: groups for groups, items in _TELL.items() for item in items.split()}
 # Items that are written with the group in which they are told, and a PI, by which nothing else holds.
-_TOLD_ONCE = ("pi", "rt_plus", "ert", "dab:")
+_TOLD_ONCE = tuple("pi rt_plus ert dab:".split())
 _DI = ("dynamic_pty", "compressed", "artificial_head", "stereo")
 
 
@@ -77,7 +84,7 @@ class Redsea:
         self._held: Dict[str, Any] = {}
         self._pi, self._time = -1, ""
         self._fresh: List[str] = []
-        self._is_valid = False
+        self._is_valid: bool
         self._head = lru_cache(MOST_WRITTEN)(self._head_of)
         self._written = Written(self._text_of)
         makers: Dict[str, Callable[[Object, Words], None]] = {
@@ -125,7 +132,7 @@ class Redsea:
         if clock.start is None:
             return lines
         times = utc_texts(clock.start + groups["place"] / clock.rate)
-        return [line.replace(TIME, f',"rx_time":"{time}"', 1) for line, time in zip(lines, times)]
+        return [line.replace(TIME, f',"rx_time":"{time}"') for line, time in zip(lines, times)]
 
     def _changes(self, events: List[Event], second: int) -> bool:
         """Whether the events of a group change lines, its own or those after it: others tell again what its block 2 asks for."""
@@ -172,7 +179,7 @@ class Redsea:
         return f"{text},{safe_json(rest)[1:]}\n" if rest else text + "}\n"
 
     def _head_of(self, pi: int, second: int) -> str:
-        head = {"pi": f"0x{pi:04X}", "group": name_of(second >> 11), "tp": bool(second & 0x400)}
+        head = {"pi": f"0x{pi:04X}", "group": name_of(second >> 11), "tp": bool(second >> 10 & 1)}
         return safe_json({**head, "prog_type": self._type(second >> 5 & 0x1F)})[:-1]
 
     def _type(self, code: int) -> str:
@@ -320,5 +327,6 @@ def _keys_of(groups: Rows) -> Array:
     second, third, fourth = (groups[f"info{block}"].astype("i8") for block in BLOCKS[1:])
     complete = (groups["kind3"] >= VALID) & (groups["kind4"] >= VALID)
     valid = numpy.logical_and.reduce([groups[f"kind{block}"] == VALID for block in BLOCKS])
-    keys: Array = valid * (1 << 49) | complete << 48 | second << 32 | (third << 16 | fourth) * complete
+    keys: Array = valid * (1 << 49) | complete << 48 | second << 32
+    keys[complete] |= (third << 16 | fourth)[complete]
     return keys
