@@ -445,8 +445,8 @@ def test_groups_without_pi_are_of_no_programme_after_an_acquisition(
     acquired: List[int], heard: List[int], loss: bool
 ) -> None:
     """However rows are cut into chunks, and if sync was lost before any group came."""
-    groups = [group("6A", 0), group("6A", 0, pty=11), group("6A", 0, pty=11)]
-    rows = rows_of(groups, [(1, Damage(1, LOST)), (2, Damage(1, LOST))], acquired)
+    groups = [group("6A", 0), *3 * [group("6A", 0, pty=11)]]
+    rows = rows_of(groups, [(number, Damage(1, LOST)) for number in (1, 2, 3)], acquired)
     if loss and len(acquired) > 1:
         rows = numpy.insert(rows, 3, rows[2])
         rows["what"][3] = LOSS

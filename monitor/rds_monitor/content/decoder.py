@@ -155,4 +155,4 @@ class Decoder:
         told = latest(has | fresh)
         tuned = numpy.where(told >= 0, belongs[told], self._tuned)
         self._tuned = bool(tuned[-1])
-        return programme, begins, numpy.where(has, belongs, tuned & ~contradicts)
+        return programme, begins, tuned & ~contradicts

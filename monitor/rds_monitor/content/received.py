@@ -124,7 +124,7 @@ class Messages:
     def _texts(
         self, groups: Groups, look: TextLook, rows: Array, outage: Array, run: Array, epochs: Optional[Epochs]
     ) -> Iterator[TextChange]:
-        names, starts = numpy.zeros(1, "i8"), numpy.zeros(1, "i8")
+        names = starts = numpy.zeros(1, "i8")
         if look.message:
             message = groups.values(look.message, rows)
             rows = rows[numpy.argsort(message, kind="stable")]
