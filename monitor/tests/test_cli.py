@@ -364,7 +364,7 @@ def completed(*words: str, program: str = "rds-monitor", file) -> list:
 def test_completion_in_bash(pages: dict) -> None:
     bash = pages["rds-monitor.bash"]
     assert set(completed("", file=bash)) == {command.name for command in cli.COMMANDS}
-    assert set(completed("-", file=bash)) == {"-h", "--help", "-V", "--version"}
+    assert completed("-", file=bash) == ["-h", "--help", "-V", "--version"]
     assert completed("out", file=bash) == ["outages"]
     assert completed("outages", "--s", file=bash) == ["--share", "--soft", "--shortest", "--start"]
     # A value or an input is the name of a file.

@@ -256,8 +256,8 @@ def test_texts_of_a_station_are_shown_as_text() -> None:
 
 
 # Of stations as a page has them: the alarm, per cent of the last minute and of all blocks that are bad, and the name.
-WORST_FIRST = [("no RDS", None, None, "z"), ("", 3.0, 1.0, "y"), ("", 2.0, 9.0, "x"), ("", 2.0, 5.0, "w")]
-WORST_FIRST += [("", None, 4.0, "v"), ("", 0.0, None, "good's <b>"), ("", None, 0.0, "u")]
+WORST_FIRST = [("no RDS", None, None, "z"), ("", 3.0, 1.0, "y"), ("", 0.5, 9.0, "x"), ("", 0.5, 5.0, "w")]
+WORST_FIRST += [("", None, 0.5, "v"), ("", 0.0, None, "good's <b>"), ("", None, 0.0, "u")]
 
 
 @needs_d3

@@ -57,7 +57,7 @@ def page_of(title: str, stations: Sequence[Station], **more: Any) -> str:
     template, policy, parts = template_of()
     stations = sorted(stations, key=rank_of)
     data = safe_json([station for station in stations if "page" not in station])
-    safe = dict(parts, data=data.replace("<", "\\u003c").replace("&", "\\u0026"))
+    safe = dict(parts, data=data.replace("<", "\\u003c"))
     markup: Any = importlib.import_module("markupsafe")
     known: Dict[str, Any] = {name: markup.Markup(text) for name, text in safe.items()}
     known.update(title=printable(title), stations=stations, policy=policy, polyline=polyline)
