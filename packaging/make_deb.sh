@@ -60,12 +60,15 @@ rds ($version) unstable; urgency=medium
 ENTRY
 }
 
+# size FOLDER: in KiB, as dpkg-gencontrol counts it: each file and link by itself, and 1 for a folder, whose size is the file system's
+size() { find "$1" -printf '%y %s\n' | awk '{sum += $1 == "d" ? 1 : int(($2 + 1023) / 1024)} END {print sum}'; }
+
 # package NAME ARCHITECTURE SECTION FIELDS DESCRIPTION: builds it of its folder, and prints its name
 package() {
   local root=$work/$1 file=$folder/$1_${version}_$2.deb
   install -d "$root/DEBIAN"
   { printf 'Package: %s\nSource: rds\nVersion: %s\nSection: %s\nPriority: optional\nArchitecture: %s\n' "$1" "$version" "$3" "$2"
-    printf 'Maintainer: %s\nInstalled-Size: %s\n' "$maintainer" "$(du -ks --apparent-size "$root/usr" | cut -f 1)"
+    printf 'Maintainer: %s\nInstalled-Size: %s\n' "$maintainer" "$(size "$root/usr")"
     printf '%s\nDescription: %s\n' "$4" "$5"; } > "$root/DEBIAN/control"
   (cd "$root" && find usr -type f -exec md5sum {} + | sort -k 2) > "$root/DEBIAN/md5sums"
   find "$root" -exec touch -h -d "@$SOURCE_DATE_EPOCH" {} +

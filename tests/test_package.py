@@ -218,10 +218,9 @@ def test_fields_of_packages(packages: Packages, cases: Cases) -> None:
     }
     for path in packages.files:
         rows = [line.split() for line in said("dpkg-deb", "--contents", path).splitlines()]
-        kib = sum(int(row[2]) for row in rows if row[0][0] == "-") / 1024
-        told = int(said("dpkg-deb", "--field", path, "Installed-Size"))
-        # its folders count, too
-        assert kib <= told <= kib + 4.5 * len(rows), (path, kib, told)
+        # in KiB, by deb-substvars(5): of files rounded up, and 1 of others
+        kib = [-(-int(row[2]) // 1024) if row[0][0] == "-" else 1 for row in rows if row[5] != "./"]
+        assert int(said("dpkg-deb", "--field", path, "Installed-Size")) == sum(kib)
     pages = (TOP / "README.md").read_text()
     described = said("dpkg-deb", "--field", packages.files[-1], "Description")
     assert {*re.findall("x86-64-v[0-9]", described)} == {*re.findall("x86-64-v[0-9]", pages)} != set()
