@@ -70,7 +70,7 @@ package() {
   { printf 'Package: %s\nSource: rds\nVersion: %s\nSection: %s\nPriority: optional\nArchitecture: %s\n' "$1" "$version" "$3" "$2"
     printf 'Maintainer: %s\nInstalled-Size: %s\n' "$maintainer" "$(size "$root/usr")"
     printf '%s\nDescription: %s\n' "$4" "$5"; } > "$root/DEBIAN/control"
-  (cd "$root" && find usr -type f -exec md5sum {} + | sort -k 2) > "$root/DEBIAN/md5sums"
+  (cd "$root" && find usr -type f -exec md5sum {} + | sort) > "$root/DEBIAN/md5sums"
   find "$root" -exec touch -h -d "@$SOURCE_DATE_EPOCH" {} +
   dpkg-deb --root-owner-group -Zxz --build "$root" "$file" >/dev/null
   rm -rf "$root"

@@ -66,9 +66,10 @@ def fill(folder: Path, program: Path, library: Path, epoch: str) -> None:
         said("strip", "-o", built / "rds", program)
         said("strip", "--strip-unneeded", "-o", built / "librds.so.0", library / "librds.so.0")
         said("strip", "--strip-debug", "-D", "-o", built / "librds.a", library / "librds.a")
-        where = [f"DESTDIR={folder.parent}", f"PREFIX=/{folder.name}"]
-        words = [f"PROGRAM={built}/rds", f"LIBRARY={built}", "PAGES_NEEDED=1", f"PYTHON={sys.executable}"]
-        said("make", "-s", "install-program", "install-lib", *where, *words)
+        known = {"DESTDIR": folder.parent, "PREFIX": f"/{folder.name}", "PYTHON": sys.executable}
+        known.update(PROGRAM=built / "rds", LIBRARY=built)
+        words = "make -s install-program install-lib PAGES_NEEDED=1".split()
+        said(*words, *(f"{name}={value}" for name, value in known.items()))
         said(sys.executable, "bindings/python/make_wheel.py", built / "librds.so.0", folder, "--monitor")
         said(sys.executable, "packaging/make_pages.py", built / "pages", SOURCE_DATE_EPOCH=epoch)
         for name, to in {
@@ -142,7 +143,7 @@ def sbom(folder: Path, version: str, toolchain: str, epoch: str) -> Dict[str, An
             "licenseConcluded": "NOASSERTION",
             "copyrightText": "NOASSERTION",
         }
-        for number, (name, check) in enumerate(checks.items(), 1)
+        for number, (name, check) in enumerate(checks.items())
     ]
     of_rds = [
         ("DESCRIBES", "SPDXRef-DOCUMENT", "SPDXRef-rds"),
@@ -201,7 +202,6 @@ def main(words: List[str]) -> None:
         sys.exit("make_dist: by which toolchain was it built? TOOLCHAIN='the line of rt version' says it")
     epoch = os.environ.get("SOURCE_DATE_EPOCH") or said("git", "log", "-1", "--format=%ct")
     version = said(program, "--version").removeprefix("rds ")
-    os.umask(0o022)
     with tempfile.TemporaryDirectory() as work:
         top = Path(work) / f"rds-{version}-x86_64"
         top.mkdir()

@@ -4,6 +4,7 @@ from __future__ import annotations
 
 import os
 from pathlib import Path
+from typing import Any
 
 from running import TOP, first_program, run, said, wrote
 
@@ -20,11 +21,12 @@ def dated() -> dict[str, str]:
     return {**os.environ, "SOURCE_DATE_EPOCH": "1700000000"}
 
 
-def made(rds: str, librds: str, folder: Path, arm64: str | None) -> list[Path]:
+def made(rds: str, librds: str, folder: Path, arm64: str | None, **options: Any) -> list[Path]:
     """Builds the packages into the folder."""
     words = [TOP / "packaging/make_deb.sh", rds, librds, folder, *([arm64] if arm64 else [])]
-    text = said(*words, cwd=TOP, timeout=300, env=dated())
-    return [Path(line) for line in text.splitlines()]
+    done = run(*words, **{"cwd": TOP, "timeout": 300, "env": dated(), **options})
+    assert (done.status, done.err) == (0, b""), done
+    return [Path(line) for line in done.out.decode().splitlines()]
 
 
 class Packages:

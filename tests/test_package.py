@@ -189,6 +189,36 @@ def newest_libc(path: str) -> str:
     return max(found, key=lambda version: [int(number) for number in version.split(".")])
 
 
+RECORDINGS = "Radio Data System (RDS, IEC 62106) recordings"
+DESCRIPTIONS = f"""\
+librds-dev: decoder of {RECORDINGS}, development files
+ The header, the static library, manual pages, examples, and the files for
+ pkg-config and CMake, for programs in C and C++.
+
+librds0: decoder of {RECORDINGS}, shared library
+ Decodes demodulated RDS bits into sync acquisitions, groups with their
+ corrected and uncorrectable blocks, and sync losses. It encodes groups, too.
+ The decoder's code is proved to meet its definitions.
+
+librds0-dbgsym: debug symbols for librds0
+
+python3-librds: decoder of {RECORDINGS}, Python module
+ The module librds decodes recordings and live streams of RDS bits, into
+ Python values or numpy arrays.
+
+rds: decoder of {RECORDINGS}
+ Decodes demodulated RDS bits into a listing: sync acquisitions, groups with
+ their corrected and uncorrectable blocks, sync losses and totals, from files
+ or live. It encodes groups, too.
+ .
+ The program needs a processor with SSE4.2 and POPCNT (x86-64-v2).
+
+rds-monitor: tables, databases and alarms from {RECORDINGS}
+ Says what a station sent and how well it was received: block errors,
+ outages, contents, SQLite, JSON, a check for monitoring systems. It turns an
+ FM multiplex or IQ samples into RDS bits."""
+
+
 @of_packages
 def test_fields_of_packages(packages: Packages, cases: Cases) -> None:
     cases(3)
@@ -216,19 +246,33 @@ def test_fields_of_packages(packages: Packages, cases: Cases) -> None:
         f"{maintainer} ",
         f"{maintainer} {', '.join(suggested.split())}",
     }
+    described = {
+        said("dpkg-deb", "--show", "--showformat=${Package}: ${Description}", path) for path in packages.files
+    }
+    assert described == {*DESCRIPTIONS.split("\n\n")}
     for path in packages.files:
         rows = [line.split() for line in said("dpkg-deb", "--contents", path).splitlines()]
         # in KiB, by deb-substvars(5): of files rounded up, and 1 of others
         kib = [-(-int(row[2]) // 1024) if row[0][0] == "-" else 1 for row in rows if row[5] != "./"]
         assert int(said("dpkg-deb", "--field", path, "Installed-Size")) == sum(kib)
     pages = (TOP / "README.md").read_text()
-    described = said("dpkg-deb", "--field", packages.files[-1], "Description")
-    assert {*re.findall("x86-64-v[0-9]", described)} == {*re.findall("x86-64-v[0-9]", pages)} != set()
+    assert {*re.findall("x86-64-v[0-9]", DESCRIPTIONS)} == {*re.findall("x86-64-v[0-9]", pages)}
 
 
 @of_packages
 def test_packages_are_the_same_again(packages: Packages, tmp_path: Path) -> None:
-    again = made(packages.rds, packages.librds, tmp_path, packages.arm64)
+    """Made of links, from another folder, by files that are for their owner alone, and by the date of the last commit. No other file stays."""
+    links = {name: tmp_path / name for name in ("rds", "librds")}
+    for name, to in {"rds": packages.rds, "librds": packages.librds}.items():
+        links[name].symlink_to(to)
+    for name in ("made", "temporary"):
+        (tmp_path / name).mkdir()
+    variables = {**os.environ, "PATH": dated_by_git(tmp_path / "tools"), "TMPDIR": f"{tmp_path}/temporary"}
+    variables |= {"MAKEFLAGS": "n", "MAKELEVEL": "1"}
+    variables.pop("SOURCE_DATE_EPOCH", None)
+    how: dict[str, Any] = {"cwd": tmp_path, "env": variables, "umask": 0o077}
+    again = made(str(links["rds"]), str(links["librds"]), tmp_path / "made", packages.arm64, **how)
+    assert [*(tmp_path / "temporary").iterdir()] == []
     sums = [
         {path.name: sha256(path.read_bytes()).hexdigest() for path in files}
         for files in (again, packages.files)
@@ -464,23 +508,33 @@ def copied(tmp_path_factory: Any) -> Path:
     return Path(shutil.copytree(TOP, to, ignore=shutil.ignore_patterns(*names)))
 
 
-def distributed(top: Path, rds: str, librds: str, folder: Path) -> Path:
+def distributed(top: Path, rds: str, librds: str, folder: Path, **variables: str) -> Path:
     folder.mkdir()
     words = [top / "packaging/make_dist.py", rds, librds, folder, LINE]
-    return Path(said(*words, cwd=folder, env=WITHOUT_RT, timeout=300))
+    return Path(said(*words, cwd=folder, env={**WITHOUT_RT, **variables}, timeout=300))
+
+
+def dated_by_git(folder: Path) -> str:
+    """A PATH on which the last commit is of the date of the other packages."""
+    folder.mkdir()
+    (folder / "git").write_text('#!/bin/sh\n[ "$*" = "log -1 --format=%ct" ] && echo 1700000000\n')
+    (folder / "git").chmod(0o755)
+    return f"{folder}:{os.environ['PATH']}"
 
 
 @pytest.fixture(scope="session")
 def release(rds: str, librds: str, copied: Path, tmp_path_factory: Any) -> Path:
-    """The unpacked tarball, which is the same made of the tree in another folder."""
+    """The unpacked tarball, which is the same made of the tree in another folder, by a make, and by the date of the last commit."""
     zstandard = pytest.importorskip("zstandard")
     folder = tmp_path_factory.mktemp("release")
     made_here = distributed(TOP, rds, librds, folder / "one")
-    again = distributed(copied, rds, librds, folder / "other")
+    other = {"PATH": dated_by_git(folder / "tools"), "SOURCE_DATE_EPOCH": "", "MAKEFLAGS": "n"}
+    again = distributed(copied, rds, librds, folder / "other", **other)
     assert made_here.read_bytes() == again.read_bytes() and made_here.name == again.name
     packed = zstandard.decompress(made_here.read_bytes())
     with tarfile.open(fileobj=io.BytesIO(packed)) as tar:
         entries = tar.getmembers()
+    assert len({one.name for one in entries}) == len(entries)
     owners = {(one.uid, one.gid, one.uname, one.gname, one.mtime) for one in entries}
     assert owners == {(0, 0, "root", "root", 1700000000)}
     assert {(one.mode, one.isdir()) for one in entries} == {(0o755, True), (0o755, False), (0o644, False)}
@@ -490,6 +544,17 @@ def release(rds: str, librds: str, copied: Path, tmp_path_factory: Any) -> Path:
 
 of_release = pytest.mark.xdist_group("release")
 LINK = re.compile(r"\]\(([^)#\s]+)")
+
+
+# Below share, with how each begins.
+RELEASED = {
+    "man/man1/rds.1": ".Dd",
+    "man/man1/rds-monitor.1": '.TH RDS-MONITOR 1 2023-11-14 "rds-monitor ',
+    "bash-completion/completions/rds": "# Completion of rds for bash",
+    "bash-completion/completions/rds-monitor": "# AUTOMAT",
+    "zsh/site-functions/_rds": "#compdef rds\n",
+    "zsh/site-functions/_rds-monitor": "#compdef rds-monitor\n",
+}
 
 
 @of_release
@@ -502,7 +567,10 @@ def test_files_of_a_release(release: Path, rds: str, cases: Cases) -> None:
     sums = (line.split("  ") for line in (release / "SHA256SUMS").read_text().splitlines())
     summed = {name: value for value, name in sums}
     assert {*summed} == there - {"SHA256SUMS", "lib/librds.so", "examples"}
-    bill = json.loads((release / "sbom.spdx.json").read_text())
+    for name, begin in RELEASED.items():
+        assert (release / "share" / name).read_text().startswith(begin), name
+    bill = json.loads(text := (release / "sbom.spdx.json").read_text())
+    assert text == json.dumps(bill, indent=1) + "\n"
     told = {entry["fileName"][2:]: entry["checksums"] for entry in bill["files"]}
     assert {*told} == {*summed} - {"sbom.spdx.json"}
     assert all({"algorithm": "SHA256", "checksumValue": summed[name]} in told[name] for name in told)
@@ -512,7 +580,8 @@ def test_files_of_a_release(release: Path, rds: str, cases: Cases) -> None:
     assert all(said_of_packages.items() <= entry.items() for entry in bill["packages"])
     assert all(said_of_files.items() <= entry.items() for entry in bill["files"])
     ids = ["SPDXRef-DOCUMENT", *(entry["SPDXID"] for entry in bill["packages"] + bill["files"])]
-    assert len({*ids}) == len(ids) and bill["spdxVersion"] == "SPDX-2.3"
+    head = [bill[name] for name in ("spdxVersion", "dataLicense", "SPDXID")]
+    assert len({*ids}) == len(ids) and head == ["SPDX-2.3", "CC0-1.0", ids[0]]
     ends = {row[end] for row in bill["relationships"] for end in ("spdxElementId", "relatedSpdxElement")}
     assert ends == {*ids}
     related = [
@@ -526,12 +595,13 @@ def test_files_of_a_release(release: Path, rds: str, cases: Cases) -> None:
     needed = [("rds", "DEPENDS_ON", "glibc"), ("rds", "DEPENDS_ON", "python3-numpy")]
     of_rds = [("DOCUMENT", "DESCRIBES", "rds"), ("rattle", "BUILD_TOOL_OF", "rds"), *linked, *needed]
     held = [("rds", "CONTAINS", entry["SPDXID"].removeprefix("SPDXRef-")) for entry in bill["files"]]
-    assert sorted(related) == sorted([*of_rds, *held])
+    assert related == [*of_rds[:2], *held, *of_rds[2:]]
     assert bill["creationInfo"]["created"] == "2023-11-14T22:13:20Z" and bill["name"] == release.name
-    versions = {entry["name"]: entry.get("versionInfo") for entry in bill["packages"]}
-    assert versions == {"rds": version, "rattle": LINE, "glibc": None, "python3-numpy": None} | {
-        name: LINE for _, _, name in linked
-    }
+    versions = [
+        (entry["name"], entry.get("versionInfo"), entry["filesAnalyzed"]) for entry in bill["packages"]
+    ]
+    others = [(name, LINE, False) for _, _, name in linked] + [(name, None, False) for _, _, name in needed]
+    assert versions == [("rds", version, True), ("rattle", LINE, False), *others]
     # by SPDX 2.3, clause 7.9
     first = sorted(
         row["checksumValue"]
@@ -651,11 +721,42 @@ def test_what_was_built_is_used_without_the_toolchain(
     shutil.rmtree(copied / "build")
 
 
+def test_a_release_that_cannot_be_made(rds: str, librds: str, tmp_path: Path, cases: Cases) -> None:
+    """What is missing is named, the program first. A program that fails ends all."""
+    pytest.importorskip("zstandard")
+    (tmp_path / "strip").symlink_to("/bin/false")
+    (tmp_path / "one").mkdir()
+    (tmp_path / "one/librds.so.0").touch()
+    usage, none = "usage: packaging/make_dist.py PROGRAM LIBRARY FOLDER TOOLCHAIN", tmp_path / "none"
+    missing = "make_dist: there is no {}: `make` and `make lib` build it, or name another"
+    faults = [
+        ([rds, librds, tmp_path], usage),
+        ([none, none, tmp_path, LINE], missing.format(none)),
+        ([rds, none, tmp_path, LINE], missing.format(none / "librds.so.0")),
+        ([rds, tmp_path / "one", tmp_path, LINE], missing.format(tmp_path / "one/librds.a")),
+        (
+            [rds, librds, tmp_path, ""],
+            "make_dist: by which toolchain was it built? TOOLCHAIN='the line of rt version' says it",
+        ),
+        ([rds, librds, tmp_path, LINE], "make_dist: strip ended with status 1"),
+    ]
+    for words, fault in faults:
+        variables = {**WITHOUT_RT, "PATH": f"{tmp_path}:{os.environ['PATH']}"}
+        failed = run(TOP / "packaging/make_dist.py", *words, cwd=tmp_path, env=variables)
+        assert failed == (1, b"", f"{fault}\n".encode())
+    cases(len(faults))
+
+
 def test_packages_that_cannot_be_made(rds: str, librds: str, tmp_path: Path, cases: Cases) -> None:
-    cases(5)
+    cases(8)
+    for kind in ("a", "so.0"):
+        (tmp_path / kind).mkdir()
+        (tmp_path / kind / f"librds.{kind}").touch()
     faults = {
         "examples is no program": ["examples", librds, tmp_path],
-        "there is no library in examples": [rds, "examples", tmp_path],
+        "examples/README.md is no program": ["examples/README.md", librds, tmp_path],
+        f"there is no library in {tmp_path}/a": [rds, tmp_path / "a", tmp_path],
+        f"there is no library in {tmp_path}/so.0": [rds, librds, tmp_path, tmp_path / "so.0"],
         f"there is no folder {tmp_path}/none": [rds, librds, tmp_path / "none"],
     }
     for fault, words in faults.items():
@@ -663,3 +764,7 @@ def test_packages_that_cannot_be_made(rds: str, librds: str, tmp_path: Path, cas
     words = ["/bin/bash", TOP / "packaging/make_deb.sh", rds, librds, tmp_path]
     assert run(*words, cwd=TOP, env={"PATH": "/none"}).err == b"make_deb: there is no dpkg here\n"
     assert run(TOP / "packaging/make_deb.sh").status == 2
+    # A program that fails ends all, and nothing is named.
+    (tmp_path / "strip").symlink_to("/bin/false")
+    failed = run(*words, cwd=TOP, env={**os.environ, "PATH": f"{tmp_path}:{os.environ['PATH']}"})
+    assert failed == (1, b"", b"")

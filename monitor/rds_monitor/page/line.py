@@ -40,7 +40,7 @@ class Said(NamedTuple):
 def said(item: str, value: Optional[str]) -> Said:
     name, text = label(item), printable(value or "")
     first = name.split(" ")[0]
-    lane = first if first in ("AF", "EON") else name  # there are several of these; RT flag is no RT
+    lane = first if first in {"AF", "EON"} else name  # there are several of these; RT flag is no RT
     shown = f"{name[4:]}: {text}" if lane == "EON" and text else text
     return Said(name, text, lane if lane in LANES else "", shown)
 
@@ -106,7 +106,7 @@ class TimeLine:
 
     def extend(self, other: "TimeLine") -> None:
         """With a line that begins where this one ends."""
-        for name in ("parts", "sessions", "outages", "mix", "clock", "events"):
+        for name in "parts sessions outages mix clock events".split():
             getattr(self, name).extend(getattr(other, name))
         for lane, stretches in other.lanes.items():
             for one in stretches:
