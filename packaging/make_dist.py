@@ -39,7 +39,7 @@ NEEDS = {"glibc": "the system's, at run time", "python3-numpy": "the system's, f
 
 def said(*words: Any, **more: str) -> str:
     """The output of a command in the project's folder, which must not depend on the caller's make."""
-    known = {key: value for key, value in os.environ.items() if not key.startswith(("MAKE", "MFLAGS"))}
+    known = {key: value for key, value in os.environ.items() if not re.match("MAKE|MFLAGS", key)}
     done = subprocess.run(
         [*map(str, words)], cwd=TOP, env={**known, **more}, stdout=subprocess.PIPE, text=True
     )

@@ -127,7 +127,8 @@ class TimeLine:
         counts = Counter(item for _, item, _ in self.events)
         # Items that change most are left out first.
         while sum(counts.values()) > most and len(counts) > 1:
-            del counts[counts.most_common(1)[0][0]]
+            ((item, _),) = counts.most_common(1)
+            del counts[item]
         line.events = [event for event in self.events if event[1] in counts][:most]
         line.more = self.more + len(self.events) - len(line.events)
         return line
@@ -154,9 +155,9 @@ class TimeLine:
             return round(value, 3) if isinstance(value, float) else value
 
         times = [{"at": round(part.at - origin, 3), "step": part.step} for part in self.parts]
-        parts = [{**of, **encoded(part.counts)} for of, part in zip(times, self.parts)]
+        parts = [dict(of, **encoded(part.counts)) for of, part in zip(times, self.parts)]
         told: Dict[str, Any] = {"parts": parts, "more": self.more, "clock": moved(self.clock, 1)}
-        told.update((name, moved(getattr(self, name), 2)) for name in ("sessions", "outages", "mix"))
+        told.update((name, moved(getattr(self, name), 2)) for name in "sessions outages mix".split())
         told["lanes"] = [[lane, moved(self.lanes[lane], 2)] for lane in LANES if self.lanes.get(lane)]
         told["events"] = [[round(at - origin, 3), item, number(text)] for at, item, text in self.events]
         return {**told, "texts": list(texts)}
@@ -164,10 +165,7 @@ class TimeLine:
 
 def merged(part: Counted, step: float) -> Any:
     """The counts by longer intervals, of a whole number of its own."""
-    every = round(step / part.step)
-    if every <= 1 or not len(part.counts):
-        return part.counts
-    return numpy.add.reduceat(part.counts, numpy.arange(0, len(part.counts), every))
+    return numpy.add.reduceat(part.counts, numpy.arange(0, len(part.counts), round(step / part.step)))
 
 
 def by_step(spans: List[Row], step: float) -> List[Row]:
