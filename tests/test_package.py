@@ -117,11 +117,12 @@ def test_what_zsh_shows(rds: str, command: str, cases: Cases) -> None:
 
 
 def test_which_word_zsh_completes(cases: Cases) -> None:
-    """Of those after `rds`, since each command has options of its own. A command whose word is not ended has none yet."""
+    """Of those after `rds`, since each command has options of its own. A command whose word is not ended has none yet. No variable stays."""
     needs("zsh")
-    script = ZSH.replace('print -l -- "$@"', "print -- $CURRENT $words", 1)
+    script = "setopt warn_create_global" + ZSH.replace('print -l -- "$@"', "print -- $CURRENT $words", 1)
     for command in COMMANDS:
-        assert said("zsh", "-fc", script, "zsh", "rds", command, "--x", "", cwd=TOP) == f"3 {command} --x"
+        done = run("zsh", "-fc", script, "zsh", "rds", command, "--x", "", cwd=TOP)
+        assert done == (0, f"3 {command} --x\n".encode(), b"")
         assert by_zsh("rds", command) == by_zsh("rds", "")
     cases(len(COMMANDS))
 
