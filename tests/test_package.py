@@ -448,6 +448,28 @@ def test_programs_by_cmake(packages: Packages, tmp_path: Path, cases: Cases) -> 
     assert [packages.run_program(tmp_path / "made" / kind) for kind in ("static", "rds")] == [COUNTS, COUNTS]
 
 
+def test_copyright() -> None:
+    """Two paragraphs of https://www.debian.org/doc/packaging-manuals/copyright-format/1.0/: nobody has a right but the authors."""
+    texts = (TOP / "packaging/copyright").read_text().split("\n\n")
+    told = [
+        {key: " ".join(text.split()) for key, text in email.message_from_string(one).items()} for one in texts
+    ]
+    no_licence = "No licence has been given to this project yet."
+    assert told == [
+        {
+            "Format": "https://www.debian.org/doc/packaging-manuals/copyright-format/1.0/",
+            "Upstream-Name": "rds",
+            "Comment": f"{no_licence} Until one is, all rights are reserved by those who wrote it, and this package is for their "
+            "own use: nobody else may copy, change or pass it on.",
+        },
+        {
+            "Files": "*",
+            "Copyright": "2026 the authors of rds",
+            "License": f"none-yet {no_licence} All rights are reserved.",
+        },
+    ]
+
+
 # the last of them: it removes the packages of the others
 @of_packages
 def test_lintian(packages: Packages) -> None:

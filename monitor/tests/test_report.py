@@ -515,6 +515,8 @@ def test_years_of_some_days(tmp_path: Path, station: bytes) -> None:
         "index.html": ["2025", "2024", "2024-12", "2025", "2025-01", "2025-03", "2025-04"],
     }
     assert [row[1] for row in told] == ["2024-12", "2025-01", "2025-02", "2025-03", "2025-04"]
+    # of a month without any session all but the unknown time is 0
+    assert [float(text or -1) for text in told[2][2:]] == [0, 0, 0, 28 * 86400, 0, 0, 0, 0, 0, -1]
     rest = 8 * len(station) / RATE - 60
     assert [float(row[2]) for row in told] == pytest.approx([60, rest, 0, 60, rest], abs=0.01)
 

@@ -57,7 +57,7 @@ class Drawing:
         return HEIGHT * (self._top - decibels) / (self._top - self._bottom)
 
     def grid(self) -> Iterator[str]:
-        for level in numpy.arange(self._bottom, self._top + 1, RANGE_DB).tolist():
+        for level in numpy.arange(self._bottom, self._top + RANGE_DB, RANGE_DB).tolist():
             y = self._y(level)
             yield f'<line x1="0" x2="{WIDTH}" y1="{y:.1f}" y2="{y:.1f}"/>'
             yield f'<text x="2" y="{max(11.0, y - 2):.1f}">{level:g} dB</text>'

@@ -64,7 +64,7 @@ def options_stations(parser: argparse.ArgumentParser) -> None:
     parser.description, parser.epilog = DESCRIPTION, EXAMPLES
     text = "the capture (default: standard input)"
     parser.add_argument("input", nargs="?", default="-", metavar="CAPTURE", help=text)
-    for name in ("--raw", "--rate"):
+    for name in "--raw --rate".split():
         how, text = OPTIONS[name]
         parser.add_argument(name, help=text, **how)
     parser.add_argument("--centre", type=hertz, metavar="HZ", help="the frequency of the centre, such as 98M")
