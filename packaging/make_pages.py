@@ -150,10 +150,10 @@ def completion(shell: str) -> str:
 def main(words: List[str]) -> None:
     if len(words) != 1:
         sys.exit("usage: packaging/make_pages.py FOLDER")
-    folder = Path(words[0])
+    folder = Path(*words)
     folder.mkdir(parents=True, exist_ok=True)
     (folder / "rds-monitor.1").write_text(page())
-    for shell, name in (("bash", "rds-monitor.bash"), ("zsh", "_rds-monitor")):
+    for shell, name in {"bash": "rds-monitor.bash", "zsh": "_rds-monitor"}.items():
         (folder / name).write_text(completion(shell))
 
 

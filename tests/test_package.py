@@ -554,6 +554,7 @@ def release(rds: str, librds: str, copied: Path, tmp_path_factory: Any) -> Path:
     other = {"PATH": dated_by_git(folder / "tools"), "SOURCE_DATE_EPOCH": "", "MAKEFLAGS": "n"}
     again = distributed(copied, rds, librds, folder / "other", **other)
     assert made_here.read_bytes() == again.read_bytes() and made_here.name == again.name
+    assert [*copied.rglob("__pycache__")] == []
     packed = zstandard.decompress(made_here.read_bytes())
     with tarfile.open(fileobj=io.BytesIO(packed)) as tar:
         entries = tar.getmembers()
@@ -619,7 +620,8 @@ def test_files_of_a_release(release: Path, rds: str, cases: Cases) -> None:
     of_rds = [("DOCUMENT", "DESCRIBES", "rds"), ("rattle", "BUILD_TOOL_OF", "rds"), *linked, *needed]
     held = [("rds", "CONTAINS", entry["SPDXID"].removeprefix("SPDXRef-")) for entry in bill["files"]]
     assert related == [*of_rds[:2], *held, *of_rds[2:]]
-    assert bill["creationInfo"]["created"] == "2023-11-14T22:13:20Z" and bill["name"] == release.name
+    creation = {"created": "2023-11-14T22:13:20Z", "creators": ["Tool: make_dist.py"]}
+    assert bill["creationInfo"] == creation and bill["name"] == release.name
     versions = [
         (entry["name"], entry.get("versionInfo"), entry["filesAnalyzed"]) for entry in bill["packages"]
     ]
@@ -634,6 +636,7 @@ def test_files_of_a_release(release: Path, rds: str, cases: Cases) -> None:
     )
     code = bill["packages"][0]["packageVerificationCode"]["packageVerificationCodeValue"]
     assert code == sha1("".join(first).encode()).hexdigest()
+    assert bill["documentNamespace"].endswith(f"/{release.name}-{code}")
     assert told["bin/rds"][0] == {
         "algorithm": "SHA1",
         "checksumValue": sha1((release / "bin/rds").read_bytes()).hexdigest(),

@@ -19,6 +19,7 @@ import pytest
 
 from conftest import COMMAND, PROGRAM, STATION, TOP, monitor, ran, rds
 from made import damaged, on_a_terminal, peak_memory, run, said
+import rds_monitor
 from rds_monitor import cli
 from rds_monitor.rows import inputs
 from rds_monitor.rows.items import Rules
@@ -272,8 +273,11 @@ def pages(tmp_path_factory) -> dict:
     pytest.importorskip("shtab")
     pytest.importorskip("build_manpages")
     folder = tmp_path_factory.mktemp("pages")
-    subprocess.run([sys.executable, TOP / "packaging" / "make_pages.py", folder], check=True)
-    return {path.name: path for path in folder.iterdir()}
+    # The package beside the script counts, and no other one.
+    (folder / "rds_monitor.py").write_text("raise ValueError")
+    words = [sys.executable, TOP / "packaging" / "make_pages.py", folder / "of" / "monitor"]
+    subprocess.run(words, check=True, env={**os.environ, "PYTHONPATH": str(folder)})
+    return {path.name: path for path in words[-1].iterdir()}
 
 
 def test_the_manual_page_is_right(pages: dict) -> None:
@@ -281,6 +285,9 @@ def test_the_manual_page_is_right(pages: dict) -> None:
         lint = ["mandoc", "-T", "lint", "-W", "warning", pages["rds-monitor.1"]]
         assert subprocess.run(lint, capture_output=True).stdout == b""
     text = pages["rds-monitor.1"].read_text().replace("\\-", "-")
+    assert text.split("\n.SH DESCRIPTION\n")[1].startswith(rds_monitor.__doc__)
+    assert re.findall(r"^\.BR (.*)$", text, re.M) == ["rds (1),", "rds (1)"]
+    assert "\nRDS_LIBRARY\nThe path of librds.so.0, by default the system's.\n" in text
     statuses = ("OK", "WARNING", "CRITICAL", "UNKNOWN")
     named = ", ".join(f"{getattr(verdict, name)} {name}" for name in statuses)
     assert verdict.WORDS == statuses and f"ends in the statuses of a plugin: {named}." in text
@@ -288,7 +295,8 @@ def test_the_manual_page_is_right(pages: dict) -> None:
         assert run(*words).status == status and f"\n.TP\n{status}\n" in text
 
 
-ACTIONS = {command.name: cli.parser_of(command)._actions for command in cli.COMMANDS}
+COMMANDS = {command.name: command for command in cli.COMMANDS}
+ACTIONS = {name: cli.parser_of(command)._actions for name, command in COMMANDS.items()}
 
 
 def test_each_option_is_on_each_page(pages: dict) -> None:
@@ -298,13 +306,28 @@ def test_each_option_is_on_each_page(pages: dict) -> None:
     for command, found in ACTIONS.items():
         of_page = text.split(f"\n.SS {command}\n")[1].split("\n.S")[0]
         of_zsh = zsh.split(f"\n_shtab_rds_monitor_{command}_options=(")[1].split("\n)")[0]
+        epilog = cli.parser_of(COMMANDS[command]).epilog
+        assert (f"\n.PP\n.nf\n{epilog}\n.fi" in of_page) == bool(epilog)
         names = [name for action in found for name in action.option_strings]
         assert completed(command, "-", file=bash) == names
         assert all(f"\\fB{name}\\fR" in of_page for name in names if name not in ("-h", "--help"))
         assert all(re.search(rf'[",{{]\*?{name}["\[,}}]', of_zsh) for name in names)
         for action in found:
+            # a value that is none of a few is a file
+            files = [
+                f"\n_shtab_rds_monitor_{command}_{name.replace('-', '_')}_COMPGEN="
+                for name in action.option_strings
+            ]
+            assert {file in bash.read_text() for file in files} <= {action.nargs != 0 and not action.choices}
             wanted = sorted(map(str, action.choices or ()))
             assert not wanted or sorted(completed(command, action.option_strings[0], "", file=bash)) == wanted
+
+
+def test_signs_of_roff(pages: dict) -> None:
+    """Backslashes, hyphens, and lines that begin like a request."""
+    ask = "import make_pages, sys; sys.stdout.write(make_pages.roff(sys.argv[1]))"
+    done = ran([sys.executable, "-c", ask, "a-b\n.c \\d\n'e"], check=True, cwd=TOP / "packaging")
+    assert done.stdout == "a\\-b\n\\&.c \\ed\n\\&'e"
 
 
 def test_common_options_are_told_once(pages: dict) -> None:
