@@ -24,7 +24,8 @@ def dated() -> dict[str, str]:
 def made(rds: str, librds: str, folder: Path, arm64: str | None, **options: Any) -> list[Path]:
     """Builds the packages into the folder."""
     words = [TOP / "packaging/make_deb.sh", rds, librds, folder, *([arm64] if arm64 else [])]
-    done = run(*words, **{"cwd": TOP, "timeout": 300, "env": dated(), **options})
+    how: dict[str, Any] = {"cwd": TOP, "timeout": 300, "env": dated(), **options}
+    done = run(*words, **how)
     assert (done.status, done.err) == (0, b""), done
     return [Path(line) for line in done.out.decode().splitlines()]
 

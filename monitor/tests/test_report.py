@@ -426,6 +426,23 @@ def test_sessions_of_unknown_start_follow_on_one_another(tmp_path: Path) -> None
     assert [(one.begin, one.end) for one in station.sessions] == [(0, 3), (3, 6)]
 
 
+def test_the_tile_of_a_session_of_more_than_a_day(tmp_path: Path) -> None:
+    """Of 25 hours the last day is shown, each of its quarters of an hour with a per cent more of bad blocks."""
+    path = tmp_path / "it.db"
+    Store(str(path)).close()
+    rows = [(minute, 100 - max(0, minute - 60) // 15) for minute in range(25 * 60)]
+    with sqlite3.connect(path) as database:
+        database.execute("INSERT INTO recordings VALUES(1, 'it', 'X')")
+        session = "INSERT INTO sessions VALUES(1, 1, 0, 600, 1000, 60000, 0, 90000000, 1, NULL)"
+        database.execute(session)
+        columns = "session, minute, sent, valid, corrected, lost, missing, more"
+        insert = f"INSERT INTO minute_rows({columns}) VALUES(1, ?, 100, ?, 0, 0, 0, 0)"
+        database.executemany(insert, rows)
+    (station,) = Stored(str(path)).stations()
+    assert (station.begin, station.end) == (600, 90600)
+    assert station.tile()["line"] == [float(number) for number in range(96)]
+
+
 @pytest.fixture(scope="module")
 def year(tmp_path_factory: Any) -> Path:
     path: Path = tmp_path_factory.mktemp("years") / "year.db"

@@ -159,7 +159,10 @@ def test_the_picture(page: str) -> None:
 
 
 def test_a_picture_and_its_names(page: str) -> None:
-    """The grid fills 1200 by 320, as the line and the marks do. Three lines of names are below."""
+    """The grid fills 1200 by 320, as the line and the marks do. Three lines of names are below. The line is thin at any size, and not filled."""
+    rule = ".spectrum polyline { fill: none; stroke: var(--missing); stroke-width: 1; vector-effect: non-scaling-stroke; }"
+    rules = f"{rule}\n.spectrum line {{ stroke: var(--line); }} .spectrum .mark {{ stroke: var(--lost); }}\n"
+    assert f"\n{rules}</style>" in page
     assert 'viewBox="0 0 1200 360"' in page and re.search(r'<polyline points="0.0,[^"]* 1200.0,[^ "]*"', page)
     levels = [float(at) for at in re.findall(r'<line x1="0" x2="1200" y1="([\d.]+)"', page)]
     assert len(levels) > 2 and levels == [
