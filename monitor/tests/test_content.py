@@ -714,7 +714,7 @@ def test_a_wrong_pair_does_not_stay() -> None:
 
 
 def test_groups_that_are_alike_have_one_number() -> None:
-    """A hash of 16 bits finds them: of so many keys, each of which comes twice, a hundred have that of another."""
+    """A hash of 16 bits finds them: of 4,096 keys, each of which comes twice, a hundred or more have that of another."""
     keys = numpy.random.default_rng(1).integers(0, 1 << 54, 1 << 12).repeat(2)
     rows, number = columns._alike(keys)
     assert (keys[rows][number] == keys).all() and len(rows) == 1 << 12
