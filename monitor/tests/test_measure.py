@@ -14,7 +14,8 @@ import pytest
 from hypothesis import given, settings, strategies as st
 
 from conftest import rds
-from made import BLOCK_OFFSETS, acquired_row, block, damaged, group_row, listing, output, read, run, said
+from made import BLOCK_OFFSETS, acquired_row, block, damaged, group_row, listing, lock
+from made import output, read, run, said
 from rds_monitor.measures.errors import Errors
 from rds_monitor.measures.measure import Programmes
 from rds_monitor.measures.outages import Outages
@@ -100,6 +101,8 @@ def test_outages_by_their_places(outages: bytes) -> None:
         (("--rate", 1196, "--shortest", 40), ["78.261,130.435,52.174,93600,156000"]),
     ):
         assert said(*ask, "--density", 100, *words, data=outages)[1:] == rows
+    # Groups without a bad block end an outage that began with the recording.
+    assert said("outages", data=listing(lock(2000, 9 * [WORDS])))[1:] == ["0.000,1.684,1.684,0,2000"]
 
 
 def test_the_end_of_a_part(two: bytes) -> None:
