@@ -89,7 +89,9 @@ def test_outages_by_their_places(outages: bytes) -> None:
     ]
     for words, places in (
         (("--shortest", 0.4), "10400-10920 31200-33280 93600-156000 206960-208000"),
-        (("--density", 5), "31200-33280 93600-124800 124904-156000"),
+        # Of 45.67 blocks in a second 8.7 per cent are the four of the group alone, and 8.8 per cent are five.
+        (("--density", 8.7), "31200-33280 93600-124800 124904-156000"),
+        (("--density", 8.8), "31200-33280 93600-156000"),
     ):
         found = [line.split(",")[3:] for line in said(*ask, *words, data=outages)[1:]]
         assert " ".join(map("-".join, found)) == places
@@ -374,7 +376,9 @@ def test_outages_against_a_loop(rows: Rows, cuts: List[int], share: float, short
     outages = Outages(1187.5, share, shortest)
     outages.begin(0)
     end = max(place for place, _ in blocks_in(rows)) + 500
-    found = [outage for chunk in in_chunks(rows, cuts) for outage in outages.add(chunk)] + outages.close(end)
+    found = [outage for chunk in in_chunks(rows, cuts) for outage in outages.add(chunk)]
+    known = outages.end
+    found += outages.close(end)
     valid = [place for place, kind in blocks_in(rows) if kind == VALID]
     needed = max(1, math.ceil(share / 100 * 1187.5 / 26))
     counting = [
@@ -385,6 +389,9 @@ def test_outages_against_a_loop(rows: Rows, cuts: List[int], share: float, short
             for last in range(max(n, needed - 1), n + needed)
         )
     ]
+    # A block after the last ones may still make these count.
+    sure = set(counting) & set(valid[: max(0, len(valid) - needed + 1)])
+    assert known == max((place + 26 for place in sure), default=0)
     wanted, last_end = [], 0
     for place in [*counting, end]:
         if place - last_end >= shortest * 1187.5 and place > last_end:

@@ -527,6 +527,8 @@ def test_two_databases_are_merged(tmp_path, station: bytes) -> None:
         ("two", told.format("watched", watched, "B", "60, 90")),
         ("one", told.format("watched", watched, "B", "90, 95")),
         ("all", told.format("watched", watched, "B", "0, 95")),
+        ("one all", told.format("watched", watched, "C", "100, 150")),
+        ("two", told.format("watched", watched, "C", "140, 145")),
         ("one", "INSERT INTO station_rows VALUES('B', 8, 'old')"),
         ("two", "INSERT INTO station_rows VALUES('B', 9, 'new')"),
     ]

@@ -127,7 +127,8 @@ def test_stations_with_an_alarm_are_counted_once() -> None:
     critical = [alarm for alarm in NAMES if standing_of(state(alarms={alarm: ""})).severity == "critical"]
     assert critical == ["silent", "no_rds", "pi"]
     assert standing_of(state(alarms={"ta": "TA is on", "pi": "PI D319"})).text == "ta: TA is on; pi: PI D319"
-    assert standing_of(state(session_utc=None, reason="no byte")).text == "no session: no byte"
+    idle = standing_of(state(session_utc=None, reason="no byte"))
+    assert (idle.state, idle.text) == ("no session", "no session: no byte")
 
 
 def test_the_worst_first() -> None:

@@ -577,11 +577,12 @@ def locked(self: Any, records: Any) -> None:
     raise sqlite3.OperationalError("database is locked")
 
 
-def test_changes_that_are_too_many() -> None:
+@pytest.mark.parametrize("begin", [0, 1])
+def test_changes_that_are_too_many(begin: int) -> None:
     """Of an item six are stored per minute, and the others counted. A minute waits for two groups after it."""
     part = Part(Clock(0.0), 0, Contents(1187.5))
     for number in range(9):
-        part._keep(Event(104 * number, 0xD318, "ps", str(number), None, str(number)))
+        part._keep(Event(begin + 104 * number, 0xD318, "ps", str(number), None, str(number)))
     part.pass_to(3 * 71250 + 207)
     told = part.taken()
     assert [(event.number, event.text) for event in told.events] == [(0, text) for text in "012345"]

@@ -47,7 +47,7 @@ def standing_of(state: Dict[str, Any]) -> Standing:
     """By the state of a station that is watched."""
     reason = None if state["session_utc"] is not None else state["reason"] or "the receiver starts"
     last = state["last_group_utc"]
-    silent = None if last is None else max(0.0, state["utc"] - last)
+    silent = None if last is None else state["utc"] - last
     return standing(reason, silent, bad_in(state["minute"]), state["alarms"])
 
 
