@@ -94,8 +94,8 @@ def test_bits_gaps_and_hexadecimal_text(station: bytes, tmp_path) -> None:
     path = tmp_path / "it.hex"
     path.write_text(station.hex(" ", 7) + "\n")
     gaps = [(104, 105), (50000, 50300)]
-    # The last bit is inside a byte, its last one, or the last of all.
-    for bits in (100003, 100000, 8 * len(station), 50400):
+    # The last bit is inside a byte, its first one, its last one, or the last of all.
+    for bits in (100003, 100001, 100000, 8 * len(station), 50400):
         wanted = rds("list", "--bits", bits, "--gaps", "104-105,50000-50300", data=station)
         assert written(open_source(str(path), Reading(hex=True, bits=bits, gaps=gaps))) == wanted
     assert written(open_source(str(path), Reading(hex=True, bits=0))) == rds("list")

@@ -114,9 +114,10 @@ def test_no_sync_is_said_after_two_seconds_and_sync_once(station: bytes) -> None
     assert time.monotonic() - began > 2
     chain.send(bytes(100))
     assert chain.says(0.5) == ""
-    chain.send(station[:1300])
+    # Its first row is that of an acquisition, alone.
+    chain.send(station[:8])
     assert chain.says(20).startswith("rds-monitor: sync after ")
-    chain.send(station[1300:2600])
+    chain.send(station[8:2600])
     assert chain.end() == ""
 
 

@@ -366,7 +366,7 @@ def test_intervals_against_a_loop(rows: Rows, cuts: List[int], bits: float, tail
         assert entry.sent == entry.valid + entry.corrected + entry.lost + entry.missing
     # All of it adds up to what was sent.
     assert len(found) == math.ceil(end / bits)
-    assert sum(interval.sent for interval in found) in (end // 26, end // 26 + 1)
+    assert sum(interval.sent for interval in found) == end // 26
     assert sum(interval.sent - interval.missing for interval in found) == len(places)
 
 

@@ -15,6 +15,7 @@ from conftest import encode, rds
 from made import joined, lock, output, read, run, said, symbols
 from modulator import words
 
+from rds_monitor.rows import opening, recording
 from rds_monitor.rows.decoders import decoder_of
 from rds_monitor.rows.hours import Hour
 from rds_monitor.rows.items import CORRECTED, GROUP, Fault, Reading, Rules, totals_of
@@ -119,7 +120,10 @@ def test_the_least_and_the_greatest_margin(margin: int, path: Path) -> None:
 
 
 @pytest.mark.parametrize("bits", [0, 1, 26, 5000, len(SYMBOLS) - 1])
-def test_a_number_of_bits(bits: int, path: Path) -> None:
+def test_a_number_of_bits(bits: int, path: Path, monkeypatch: pytest.MonkeyPatch) -> None:
+    """Of 5,000 the last symbol is in the next chunk."""
+    for module in (opening, recording):
+        monkeypatch.setattr(module, "CHUNK", 2500)
     gaps, words_ = ([(30, 40)], ["--gaps", "30-40"]) if bits > 40 else ([], [])
     source = open_source(str(path), Reading(rules=Rules(margin=32), bits=bits, gaps=gaps))
     assert written(source) == rds("list", "--soft", "--bits", bits, *words_, data=SYMBOLS)
