@@ -31,7 +31,7 @@ from rds_monitor.watch.records import (
 from rds_monitor.watch.times import Timing
 
 UTC = 1795748400.0
-DAY = Availability(80000.0, 400.0, 3000.0, 3000.0)
+DAY = Availability(80000.0, 400.0, 2999.98765, 3000.0)
 HOSTILE = "<script>alert(1)</script>\"'& \u202e\x1b[2J" + "a" + "\u0301" * 64
 
 
@@ -274,13 +274,11 @@ def dump(folder: Path) -> List[str]:
 
 
 def test_metrics() -> None:
-    beta = state(clock_s=None, minute=None, signal={})
-    text = metrics_text(
-        {'Al"pha\\\n': state(alarms={"ta": "x"}), "Beta": beta},
-        dict.fromkeys(['Al"pha\\\n', "Beta"], DAY),
-        {},
-        UTC,
+    gamma, beta = (
+        state(clock_s=None, minute=None, signal={}, **more) for more in ({"expected_pi": []}, {"held": {}})
     )
+    states = {"Gamma": gamma, 'Al"pha\\\n': state(alarms={"ta": "x"}), "Beta": beta}
+    text = metrics_text(states, dict.fromkeys(states, DAY), {}, UTC)
     lines = text.splitlines()
     sample = r'rds_\w+(\{(\w+="([^"\\]|\\["\\n])*",?)+\})? -?[0-9.e+]+'
     assert all(re.fullmatch(rf"# (HELP|TYPE) rds_\w+ .+|{sample}", line) for line in lines)
@@ -288,7 +286,8 @@ def test_metrics() -> None:
     assert 'rds_alarm{station="Beta",alarm="ta"} 0' in lines
     assert 'rds_bad_blocks_ratio{station="Al\\"pha\\\\\\n"} 0.1' in lines
     assert f"rds_watch_timestamp_seconds {UTC:.15g}" in lines
-    assert len([line for line in lines if line.startswith("rds_clock_offset")]) == 1
+    assert [text.count(f"\nrds_{name}{{") for name in ("clock_offset_seconds", "pi_as_expected")] == [1, 1]
+    assert re.findall(r'receiver_up{station="(\w+).*} 1', text) == ["Al", "Beta", "Gamma"]
     # The rest of one station, and a minute in which nothing was sent.
     known = state(running=False, held={"pi": "D319"}, minute={"sent": 0, "valid": 0})
     other = metrics_text({"B": known}, {"B": DAY}, {"disk": "rows wait"}, UTC)
@@ -303,9 +302,15 @@ def test_metrics() -> None:
         "snr_db": "21.5",
         "level_dbfs": "-31",
     }
-    for line in ('day_seconds{station="B",state="down"} 3000', 'station_state{station="B",state="good"} 1'):
+    for line in (
+        'day_seconds{station="B",state="down"} 2999.988',
+        'station_state{station="B",state="good"} 1',
+    ):
         assert f"rds_{line}" in other.splitlines()
-    assert 'rds_alarm{alarm="disk"} 1' in other.splitlines() and 'rds_alarm{alarm="disk"} 0' in lines
-    assert [line.split()[2] for line in lines if line.startswith("# TYPE")] == [
-        metric.name for metric in METRICS
+    assert [re.findall(".*disk.*", one) for one in (other, text)] == [
+        [f'rds_alarm{{alarm="disk"}} {number}'] for number in (1, 0)
     ]
+    kinds = [re.findall(r"^# TYPE (\w+) (\w+)$", one, re.M) for one in (text, other)]
+    counters = "rds_receiver_starts_total", "rds_blocks_total"
+    wanted = [(metric.name, "counter" if metric.name in counters else "gauge") for metric in METRICS]
+    assert kinds == [wanted, [one for one in wanted if one[0] != "rds_bad_blocks_ratio"]]

@@ -21,6 +21,7 @@ from conftest import rds
 from load import Endless
 from made import run
 from network import START, Air, Plan, Simulated
+from network import asked as asked_in
 from rds_monitor.content.decoder import Event
 from rds_monitor.db.parts import Contents, MinuteRow, Part, Told
 from rds_monitor.db.standing import Availability
@@ -553,8 +554,44 @@ def test_the_pace_of_a_watch(monkeypatch: pytest.MonkeyPatch) -> None:
     one._writer, one._records, one._lock = mock.Mock(), mock.Mock(), os.open(os.devnull, os.O_RDONLY)
     assert (one._leave(), now, slept) == (1, [109.0], {0.1, 0.05})
     assert one._thread.end.call_args == mock.call(5.0)
+    assert one._watch.stop.called and one._watch.kill.called and one._writer.close.called
+    assert one._records.close.called and not os.path.exists(f"/proc/self/fd/{one._lock}")
     holds = "the old table holds: '/none' cannot be read: No such file or directory"
     assert said == [("error", holds), ("error", "rows were not written: no room")]
+
+
+def test_how_a_watch_begins(tmp_path: Path, monkeypatch: pytest.MonkeyPatch) -> None:
+    """In a folder that is new, or that of a watch that was killed: its runs end now, and the lock tells since when this one runs. One that
+    is fast tells its receivers."""
+    monkeypatch.setenv("RDS_MONITOR_FAST", "none")
+    folder, begin = tmp_path / "new" / "folder", int(time.time())
+    for speed in (1.0, 8.0):
+        decoding = service.Decoding(None, mock.Mock(), "it", table_of(TABLE))
+        one = service.Service("it.toml", decoding, str(folder), speed)
+        now, lock = time.time() + 1, os.stat(folder / "watch.lock")
+        told, runs = os.environ["RDS_MONITOR_FAST"], asked_in(folder, "SELECT end_at, reason FROM run_rows")
+        assert begin <= lock.st_mtime <= now and os.get_inheritable(one._lock) is False
+        one._records.write([RunBegan("Alpha", 5.0)])
+        os.utime(folder / "watch.lock", (1, 1))
+        os.close(one._lock)
+        one._records.close()
+        if speed == 1:
+            assert (told, runs) == ("none", [])
+    ((end, reason),), (since, times) = runs, map(float, told.split())
+    assert begin <= since <= now and times == 8 and reason == "the watch was killed"
+    assert begin <= end <= since + 8 * (now - since)
+
+
+def test_a_writer_that_crashed(monkeypatch: pytest.MonkeyPatch) -> None:
+    """The watch ends by that, and none of its receivers is left. Nobody who reads its lines may end it."""
+    one: Any = object.__new__(service.Service)
+    monkeypatch.setattr(service.signal, "signal", heard := mock.Mock())
+    one._ending, one._decoding, one._watch = False, mock.Mock(), mock.Mock(stations={})
+    one._thread = mock.Mock(crash="at line 1")
+    with pytest.raises(Fault, match="^nothing can be written any more: at line 1$"):
+        one.run()
+    assert one._watch.kill.called and one._thread.start.called and not one._watch.poll.called
+    assert heard.call_args == mock.call(service.signal.SIGPIPE, service.signal.SIG_IGN)
 
 
 def test_records_that_are_too_many(tmp_path: Path, monkeypatch: pytest.MonkeyPatch) -> None:

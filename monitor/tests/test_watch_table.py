@@ -118,6 +118,15 @@ def test_soft_decisions_of_the_decoder(monkeypatch: pytest.MonkeyPatch, capsys: 
     assert asked[1:] == [(None, "follow"), (None,)]
     with pytest.raises(Fault, match="it has no soft decisions"):
         watch.decoding_of(None, needed)
+    # A table that is read again is for the same decoder.
+    one: Any = object.__new__(watch.Service)
+    one._decoding = watch.Decoding("mine", ByProgram, "/usr/bin/rds", bits)
+    assert (one._fitted(bits), one._fitted(soft)) == (bits, soft.hard())
+    assert asked[-2:] == [("mine", "follow"), ("mine",)]
+    one._decoding = one._decoding._replace(name="librds 0.2.0")
+    assert one._fitted(bits) == bits
+    with pytest.raises(Fault, match="^soft decisions by /usr/bin/rds need a restart$"):
+        one._fitted(soft)
 
 
 @pytest.mark.parametrize(
