@@ -31,7 +31,7 @@ from rds_monitor.watch.records import (
 from rds_monitor.watch.times import Timing
 
 UTC = 1795748400.0
-DAY = Availability(80000.0, 400.0, 2999.98765, 3000.0)
+DAY = Availability(80000.0, 400.0, 2999.98765, 1800.0)
 HOSTILE = "<script>alert(1)</script>\"'& \u202e\x1b[2J" + "a" + "\u0301" * 64
 
 
@@ -95,6 +95,8 @@ def test_the_policy_of_a_page() -> None:
     policy = re.search('Content-Security-Policy" content="([^"]+)"', page)
     assert policy and "default-src 'none'" in policy[1]
     assert f"'sha256-{base64.b64encode(hashlib.sha256(style.encode()).digest()).decode()}'" in policy[1]
+    # Each picture is as wide as its tile.
+    assert "svg{width:100%;" in style
     assert "http://" not in page and "https://" not in page and ' style="' not in page
 
 
@@ -110,6 +112,11 @@ def test_a_tile() -> None:
     for reason, told in (("", "the receiver starts"), ("unplugged", "unplugged")):
         page = station_page("A", state(session_utc=None, reason=reason), [], [], [], UTC, 60)
         assert f"no session: {told}; 3 starts" in Tags(page).text
+        assert Tags(page).text.endswith("Alarmsnone\nChangesnone\n\n")
+    text = Tags(station_page("A", state(), [], [], [], UTC, 60, DAY)).text
+    assert "session since 2026-11-27 02:43:20 UTC; 3 starts" in text
+    assert "The last 24 hours24 h ago" in text
+    assert "received 22.22 h, noise 0.11 h, down 0.83 h, unknown 0.50 h" in text
 
 
 def test_a_picture_is_in_proportion() -> None:
