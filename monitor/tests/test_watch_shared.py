@@ -124,21 +124,31 @@ def few(count: int, more: str = "") -> str:
 
 
 def test_a_changed_table(tmp_path: Path) -> None:
-    """A station more restarts its receiver, since that demodulates it; other keys and names do not."""
+    """A station more restarts its receiver, since that demodulates it; other keys and names do not. A new name waits for its session, and
+    only the old one is no longer in the table. A receiver that left begins again once it is back."""
     airs = {n: Air(Programme(0xD300 + n, "A", ""), START, 100) for n in range(3)}
     air = SharedAir({round(1e6 * (96.5 + 0.4 * n)): one for n, one in airs.items()})
-    net = Network(tmp_path, few(2), {"north": air})
+    net = Network(tmp_path, few(2), {"north": air, "c": airs[0]})
     net.run(5)
     net.reload(few(2, "[defaults.alarms]\nsilent = 30\n"))
     net.reload(few(2).replace('"A1"', '"B"'))
+    net.watch.tick()
+    assert "no session: <bdi>the receiver starts</bdi>" in (tmp_path / "pages" / "B.html").read_text()
+    ((left,),) = net.asked("SELECT state FROM station_rows WHERE station = 'A1'")
+    assert json.loads(left)["reason"] == "it is no longer in the table"
     net.run(5)
     assert len(net.runs) == 1 and set(net.watch.stations) == {"A0", "B"}
     net.reload(few(3))
     net.run(8)
     assert len(net.runs) == 2
+    net.reload(stations('name = "C"', 'command = ["c"]'))
+    net.run(4)
+    net.reload(few(3))
+    net.run(8)
+    assert [name for name, _ in net.runs] == ["north", "north", "c", "north"]
     net.end()
     counts = dict(net.asked("SELECT station, COUNT(*) FROM runs GROUP BY station"))
-    assert counts == {"A0": 2, "A1": 2, "A2": 1, "B": 1}
+    assert counts == {"A0": 3, "A1": 3, "A2": 2, "B": 1, "C": 1}
     assert all(len(text) > 500 for name in counts for text in net.texts(name)[-1:])
 
 

@@ -251,11 +251,12 @@ class Station:
         }
 
     def stop(self, steady: float, utc: float, reason: str) -> None:
-        """Ends the session; the receiver is asked to end."""
+        """Ends the session; the receiver is asked to end, unless other stations share it."""
         self.end_session(utc)
         runs = self.keeper.is_running
         self.keeper.stop(steady, reason)
+        state = self.state(utc)
         if runs:
-            self.keeper.reason = reason
+            state["reason"] = reason
             self.records.append(RunEnded(self.name, utc, reason))
-        self.records.append(StateSeen(self.name, utc, self.state(utc)))
+        self.records.append(StateSeen(self.name, utc, state))
