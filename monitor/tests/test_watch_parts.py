@@ -488,6 +488,7 @@ def test_the_strength_of_the_last_two_minutes() -> None:
     ):
         session.take(b"", Strength(level, None))
         found.append(session.strength())
+    assert [*session._strengths] == [2, 4]
     # Means by power, such as of 0.1 twice and 0.01.
     assert found == [Strength(level, None) for level in (-10.0, -10.0, -11.5, -22.6, -32.6)]
 
@@ -560,9 +561,9 @@ def test_the_pace_of_a_watch(monkeypatch: pytest.MonkeyPatch) -> None:
     assert said == [("error", holds), ("error", "rows were not written: no room")]
 
 
-def test_how_a_watch_begins(tmp_path: Path, monkeypatch: pytest.MonkeyPatch) -> None:
-    """In a folder that is new, or that of a watch that was killed: its runs end now, and the lock tells since when this one runs. One that
-    is fast tells its receivers."""
+def test_how_a_watch_begins(tmp_path: Path, monkeypatch: pytest.MonkeyPatch, capsys: Any) -> None:
+    """In a folder that is new, or that of a watch that was killed: its hours are whole again, its runs end now, and the lock tells since
+    when this one runs. One that is fast tells its receivers."""
     monkeypatch.setenv("RDS_MONITOR_FAST", "none")
     folder, begin = tmp_path / "new" / "folder", int(time.time())
     for speed in (1.0, 8.0):
@@ -571,12 +572,14 @@ def test_how_a_watch_begins(tmp_path: Path, monkeypatch: pytest.MonkeyPatch) -> 
         now, lock = time.time() + 1, os.stat(folder / "watch.lock")
         told, runs = os.environ["RDS_MONITOR_FAST"], asked_in(folder, "SELECT end_at, reason FROM run_rows")
         assert begin <= lock.st_mtime <= now and os.get_inheritable(one._lock) is False
-        one._records.write([RunBegan("Alpha", 5.0)])
+        opened = records.PartOpened(records.PartKey("Alpha 1", 0), "Alpha", Timing(5.0), 0, "listings/it.csv")
+        one._records.write([RunBegan("Alpha", 5.0), opened])
         os.utime(folder / "watch.lock", (1, 1))
         os.close(one._lock)
         one._records.close()
         if speed == 1:
-            assert (told, runs) == ("none", [])
+            assert (told, runs, capsys.readouterr().err) == ("none", [], "")
+    assert "listings/it.csv: the last watch was killed; the hour is whole again\n" in capsys.readouterr().err
     ((end, reason),), (since, times) = runs, map(float, told.split())
     assert begin <= since <= now and times == 8 and reason == "the watch was killed"
     assert begin <= end <= since + 8 * (now - since)
