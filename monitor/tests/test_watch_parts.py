@@ -181,17 +181,22 @@ def test_the_last_batch_of_a_writer(tmp_path: Path) -> None:
 
 
 def test_what_a_writer_synchronises(tmp_path: Path, monkeypatch: pytest.MonkeyPatch) -> None:
-    """The names of a new file and its folder, and the rows: before, it takes no more. The last row closes the file."""
+    """The names of a new file and its folder, and the rows: before, it takes no more. The last row closes the file, as the end does."""
     records, folders = Records(str(tmp_path / "watch.db")), list[str]()
     one, top = Writer(str(tmp_path), records, lambda priority, text: None), str(tmp_path / "listings")
-    monkeypatch.setattr(writer, "sync_folder", folders.append)
-    monkeypatch.setattr(writer.os, "fdatasync", mock.Mock(side_effect=[OSError(5, "it fails"), None]))
+    opened = lambda: [fd for fd in Path("/proc/self/fd").iterdir() if str(fd.resolve()).startswith(top)]
+    monkeypatch.setattr(writer.os, "fsync", lambda file: folders.append(os.readlink(f"/proc/self/fd/{file}")))
+    monkeypatch.setattr(writer.os, "fdatasync", mock.Mock(side_effect=[OSError(5, "it fails"), None, None]))
     one.give(Batch([Append("listings/Alpha/it.csv", b"row\n")], [], []))
     found = [(one.work(), one.is_idle, one.fault) for _ in range(2)]
     assert found == [(False, False, "it fails"), (True, True, None)]
     assert folders == [f"{top}/Alpha", top] and len(one._hours._open) == 1
     one.give(Batch([Append("listings/Alpha/it.csv", b"", closes=True)], [], []))
     assert one.work() and not one._hours._open
+    one.give(Batch([Append("listings/Alpha/it.csv", b"row\n")], [], []))
+    assert one.work() and len(folders) == 2 and len(opened()) == 1
+    one.close()
+    assert opened() == []
     records.close()
 
 
