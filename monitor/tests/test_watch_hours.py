@@ -227,15 +227,19 @@ def test_news_come_after_what_waits(tmp_path: Path) -> None:
     records.close()
 
 
-def test_a_writer_ends_with_its_last_rows(tmp_path: Path) -> None:
+def test_a_writer_ends_with_its_last_rows(tmp_path: Path, monkeypatch: pytest.MonkeyPatch) -> None:
+    """It waits for a batch, and for the end, and not for the next try."""
+    monkeypatch.setattr("rds_monitor.watch.writer.RETRY", 600.0)
     records = Records(str(tmp_path / "watch.db"))
     # In milliseconds, for another writer.
     assert records.database.execute("PRAGMA busy_timeout").fetchone() == (1000,)
     thread = WriterThread(Writer(str(tmp_path), records, lambda *said: None))
     thread.start()
     thread.give(Batch([Append("listings/Alpha/it.csv", b"row\n", True)], [], []))
-    while thread.is_alive() and not thread.is_idle:
+    end = time.monotonic() + 20
+    while thread.is_alive() and not thread.is_idle and time.monotonic() < end:
         time.sleep(0.01)
+    assert thread.is_idle
     thread.end(20)
     assert not thread.is_alive() and thread.crash is None
     assert (tmp_path / "listings" / "Alpha" / "it.csv").read_bytes() == b"row\n"

@@ -186,13 +186,13 @@ def test_what_a_writer_synchronises(tmp_path: Path, monkeypatch: pytest.MonkeyPa
     one, top = Writer(str(tmp_path), records, lambda priority, text: None), str(tmp_path / "listings")
     opened = lambda: [fd for fd in Path("/proc/self/fd").iterdir() if str(fd.resolve()).startswith(top)]
     monkeypatch.setattr(writer.os, "fsync", lambda file: folders.append(os.readlink(f"/proc/self/fd/{file}")))
-    monkeypatch.setattr(writer.os, "fdatasync", mock.Mock(side_effect=[OSError(5, "it fails"), None, None]))
+    monkeypatch.setattr(writer.os, "fdatasync", mock.Mock(side_effect=[OSError(5, "it fails"), *[None] * 3]))
     one.give(Batch([Append("listings/Alpha/it.csv", b"row\n")], [], []))
     found = [(one.work(), one.is_idle, one.fault) for _ in range(2)]
     assert found == [(False, False, "it fails"), (True, True, None)]
     assert folders == [f"{top}/Alpha", top] and len(one._hours._open) == 1
-    one.give(Batch([Append("listings/Alpha/it.csv", b"", closes=True)], [], []))
-    assert one.work() and not one._hours._open
+    one.give(Batch([Append("listings/Alpha/it.csv", b"row\n", closes=True)], [], []))
+    assert one.work() and opened() == []
     one.give(Batch([Append("listings/Alpha/it.csv", b"row\n")], [], []))
     assert one.work() and len(folders) == 2 and len(opened()) == 1
     one.close()
@@ -594,11 +594,14 @@ def test_a_writer_that_crashed(monkeypatch: pytest.MonkeyPatch) -> None:
     """The watch ends by that, and none of its receivers is left. Nobody who reads its lines may end it."""
     one: Any = object.__new__(service.Service)
     monkeypatch.setattr(service.signal, "signal", heard := mock.Mock())
-    one._ending, one._decoding, one._watch = False, mock.Mock(), mock.Mock(stations={})
-    one._thread = mock.Mock(crash="at line 1")
-    with pytest.raises(Fault, match="^nothing can be written any more: at line 1$"):
+    one._ending, one._rereading = False, False
+    one._watch = mock.Mock(stations={}, **{"poll.side_effect": [None] * 99})
+    one._decoding = mock.Mock()
+    one._thread = WriterThread(cast(Any, mock.Mock(**{"work.side_effect": ValueError("a fault")})))
+    one._thread.give(Batch([], [], []))
+    with pytest.raises(Fault, match="(?s)^nothing can be written any more: Traceback.*ValueError: a fault"):
         one.run()
-    assert one._watch.kill.called and one._thread.start.called and not one._watch.poll.called
+    assert one._watch.kill.called
     assert heard.call_args == mock.call(service.signal.SIGPIPE, service.signal.SIG_IGN)
 
 
