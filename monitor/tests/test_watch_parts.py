@@ -272,6 +272,15 @@ def test_a_full_disk_is_all_that_is_told(monkeypatch: pytest.MonkeyPatch) -> Non
     assert (verdict.said, verdict.data, verdict.status) == (["disk: no room"], [], 1)
 
 
+def test_how_a_database_is_opened(monkeypatch: pytest.MonkeyPatch) -> None:
+    """Only to be read, whatever its name is. It may be locked for five seconds."""
+    connect = mock.Mock(side_effect=sqlite3.OperationalError("database is locked"))
+    monkeypatch.setattr(asked.sqlite3, "connect", connect)
+    with pytest.raises(Fault, match=r"^/a\?b.db: database is locked$"):
+        asked.known_of("/a?b.db", "Alpha")
+    assert connect.call_args == mock.call("file:/a%3Fb.db?mode=ro", uri=True, timeout=5)
+
+
 @pytest.mark.parametrize(
     "error, told",
     [

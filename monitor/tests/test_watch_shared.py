@@ -307,6 +307,9 @@ def test_a_station_that_left_while_others_go_on_does_not_run() -> None:
         tap.stop(0.0, "it left")
         found.append([one.is_running for one in taps])
     assert found == [[False, True], [True, True]]
+    process: Any = shared.keeper._it
+    taps[0].kill()
+    assert process.kill.called and not taps[1].is_running
 
 
 def test_lines_wait_for_their_stations() -> None:

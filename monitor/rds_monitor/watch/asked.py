@@ -25,14 +25,14 @@ def judge_station(
     """By the station's state, the alarms that last, the last minute, and the options."""
     if len(paths) != 1:
         raise Fault("--station is for one database")
-    verdict = Verdict()
-    looked, state, disk, day = known_of(paths[0], name)
+    (path,), verdict = paths, Verdict()
+    looked, state, disk, day = known_of(path, name)
     quiet = time.time() - looked
     if disk:
         verdict.say(WARNING, f"disk: {disk}")
         return verdict
     if quiet > NEWS:
-        runs = runs_for(os.path.dirname(os.path.abspath(paths[0])))
+        runs = runs_for(os.path.dirname(os.path.abspath(path)))
         if runs is not None and runs > NEWS:
             verdict.say(CRITICAL, f"disk: nothing was written for {quiet:.0f} s while rds-monitor watch runs")
             return verdict
@@ -76,7 +76,7 @@ def known_of(path: str, name: str) -> Tuple[float, Dict[str, Any], str, Availabi
         data = sqlite3.connect(f"file:{quote(os.path.abspath(path))}?mode=ro", uri=True, timeout=5)
         found = data.execute("SELECT station, looked_at, state FROM station_rows ORDER BY station").fetchall()
         known = {station: (float(looked), json.loads(state)) for station, looked, state in found}
-        disk, _ = lasting_in(data, WATCH).get("disk", ("", 0.0))
+        disk = lasting_in(data, WATCH).get("disk", ("",))[0]
         looked, state = known.get(name, (0.0, {}))
         day = availability(data, name, looked - DAY, looked)
         data.close()
