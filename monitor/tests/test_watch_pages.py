@@ -317,6 +317,7 @@ def test_metrics() -> None:
     assert [re.findall(".*disk.*", one) for one in (other, text)] == [
         [f'rds_alarm{{alarm="disk"}} {number}'] for number in (1, 0)
     ]
+    assert re.findall(r'^rds_alarm\{station="B",alarm="(\w+)"\} 0$', other, re.M) == [*NAMES[:-1]]
     kinds = [re.findall(r"^# TYPE (\w+) (\w+)$", one, re.M) for one in (text, other)]
     counters = "rds_receiver_starts_total", "rds_blocks_total"
     wanted = [(metric.name, "counter" if metric.name in counters else "gauge") for metric in METRICS]
