@@ -461,6 +461,10 @@ def test_a_clock_that_is_set(tmp_path: Path) -> None:
     net.run(50)
     stamp = re.search("rds_watch_timestamp_seconds ([0-9.]+)", (tmp_path / "metrics.prom").read_text())
     assert stamp and abs(float(stamp[1]) - net.times.utc) < 61
+    # Nothing was watched in the hours between.
+    spans = net.asked("SELECT begin_at - ?, end_at - begin_at FROM watched_rows ORDER BY id", START)
+    assert [round(begin) for begin, _ in spans] == [0, 5421, 5441 - 86400]
+    assert all(0 <= length <= 71 for _, length in spans)
     net.end()
     by_session: Dict[str, List[float]] = {}
     rows = {hour.name: (hour, part) for hour, part in net.hours("Alpha")}
@@ -661,6 +665,15 @@ def test_bits_faster_than_real_time(tmp_path: Path, pace: float) -> None:
             assert hour.start + rows["place"].max() / hour.rate < net.times.utc + 6
     state = json.loads(net.asked("SELECT state FROM station_rows")[0][0])
     assert state["last_group_utc"] is None or state["last_group_utc"] <= net.times.utc
+
+
+def test_a_receiver_that_was_too_fast_once(tmp_path: Path) -> None:
+    """The alarm ends a minute after bits of the next run tell their pace."""
+    net = network(tmp_path, Air(ALPHA, START, 250), Plan(pace=50))
+    net.run(180)
+    ((name, begin, end),) = alarms(net)
+    assert name == "fast" and begin < 4 and 60 < end < 170
+    net.end()
 
 
 # ---- the disk

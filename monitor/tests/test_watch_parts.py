@@ -428,9 +428,26 @@ def test_how_long_rows_waited(tmp_path: Path) -> None:
     one.end()
 
 
-def station_of(keeper: Any) -> Station:
-    (one,) = table_of('[[station]]\nname = "Alpha"\ncommand = ["it"]\n').stations
+def station_of(keeper: Any, *lines: str) -> Station:
+    (one,) = table_of("\n".join(['[[station]]\nname = "Alpha"\ncommand = ["it"]', *lines])).stations
     return Station(one, keeper, mock.Mock(), 1.0, 100.0, mock.Mock())
+
+
+def test_a_table_with_another_patience() -> None:
+    one, table = station_of(mock.Mock()), station_of(None, "patience = 7").table
+    one._speed = 2.0
+    one.set_table(table)
+    assert one.table is table and one.keeper.patience == 14
+
+
+def test_each_run_is_demodulated_by_itself(monkeypatch: pytest.MonkeyPatch) -> None:
+    made = mock.Mock(return_value=mock.Mock(**{"take.return_value": b"", "finish.return_value": b""}))
+    monkeypatch.setattr("rds_monitor.watch.station.bit_source", made)
+    known = {"reason": "it ended", "is_stopping": False, "read.side_effect": [b"x", b"x", None, b"x"]}
+    one = station_of(mock.Mock(**known), 'form = "mpx"', 'raw = "u8"', "rate = 192000")
+    for number, count in enumerate([1, 1, 1, 2]):
+        one.poll(100.0 + number, 100.0 + number)
+        assert made.call_count == count
 
 
 @pytest.mark.parametrize("quiet", [5.0, 10.0, 10.1])
