@@ -362,6 +362,9 @@ def test_bytes_that_came_just_before_a_stop(tmp_path: Path) -> None:
     one.end()
     ((_, run),) = one.given
     assert len(run.given) == air.at(30.9) - air.at(1.0)
+    # All of them are decoded: a session may lack its first group.
+    groups = sum(text.count(b"\ngroup,") for text in one.texts("Alpha"))
+    assert groups > 8 * len(run.given) / 104 - 3
     for path, size in one.asked("SELECT path, bytes FROM hour_files"):
         assert (tmp_path / path).stat().st_size == size
     steps = ("forward by 100.0 s", "back by 50.0 s")
