@@ -159,7 +159,6 @@ class Station:
             except (Fault, ValueError) as error:
                 # No sample of a signal, or more bits than a stream may have.
                 self._say("warning", f"{self.name}: {error}")
-                self._waiting = []
                 self.end_session(utc)
                 self.keeper.stop_run(steady, str(error))
         self._see_valid(steady)
