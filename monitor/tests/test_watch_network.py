@@ -452,6 +452,9 @@ def test_a_clock_that_is_set(tmp_path: Path) -> None:
     """Forward by an hour and a half, then back by a day. Within a session no time goes back, and each is right soon."""
     net = network(tmp_path, Air(ALPHA, START, 200))
     net.run(20)
+    # Bytes of the last second wait as it is set.
+    net.times.pass_by(0.9)
+    net.watch.poll()
     net.times.utc += 5400
     net.run(20)
     net.times.utc -= 86400
@@ -463,7 +466,7 @@ def test_a_clock_that_is_set(tmp_path: Path) -> None:
     assert stamp and abs(float(stamp[1]) - net.times.utc) < 61
     # Nothing was watched in the hours between.
     spans = net.asked("SELECT begin_at - ?, end_at - begin_at FROM watched_rows ORDER BY id", START)
-    assert [round(begin) for begin, _ in spans] == [0, 5421, 5441 - 86400]
+    assert [round(begin, 1) for begin, _ in spans] == [0, 5421.9, 5441.9 - 86400]
     assert all(0 <= length <= 71 for _, length in spans)
     net.end()
     by_session: Dict[str, List[float]] = {}
@@ -487,6 +490,9 @@ def test_a_clock_that_is_set(tmp_path: Path) -> None:
     steps_told = [round(off) for off in apart(found)]
     assert steps_told == sorted(steps_told[:40], key=lambda step: (step != 0, -step)) + steps_told[40:]
     assert set(steps_told) == {0, 5400, 5400 - 86400}
+    # When the last group before the step began.
+    _, utc = max(one for one, step in zip(found, steps_told) if step == 0)
+    assert 20.9 - 7 / GROUPS_PER_SECOND < utc - START < 20.9
     assert 34 <= steps_told.count(0) <= 40
     assert 34 <= steps_told.count(5400) <= 40
 

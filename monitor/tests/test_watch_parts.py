@@ -527,6 +527,13 @@ def test_the_strength_of_the_last_two_minutes() -> None:
     assert found == [Strength(level, None) for level in (-10.0, -10.0, -11.5, -22.6, -32.6)]
 
 
+def test_what_came_before_a_step_of_the_clock_tells_no_pace() -> None:
+    session = LiveSession("Alpha", 1.0, mock.Mock(place=0), 0.0)
+    session.arrivals.reads.append((1.0, 1188))
+    session.jump(5400.0, 5402.0)
+    assert not session.arrivals.reads
+
+
 def entries(root: Any, outside: Any) -> int:
     """How many entries all containers have that can be reached, but not those of the test."""
     seen, left, count = {id(outside)}, [root], 0

@@ -37,9 +37,11 @@ class LiveSession:
         self.contents = Contents(RATE)
         self.part: Optional[Part] = None
         self._timing: Optional[Timing] = None
-        self._key = PartKey("", 0)
-        self._path, self._size = "", 0
-        self._cut = 0
+        # Of the part.
+        self._key: PartKey
+        self._path: str
+        self._size: int
+        self._cut: int
         self._early: List[Rows] = []
         self._row_end: Optional[int] = None  # where the last row ended, while there is sync
         self.whole_end: Optional[int] = None  # where the last whole group ended
