@@ -138,6 +138,17 @@ def test_a_session_over_an_hour(tmp_path: Path) -> None:
         assert sum(int(line[3]) for line in lines) == valid
 
 
+def test_sessions_without_a_group(tmp_path: Path) -> None:
+    """One of half a second, and one of zeros from an hour to the next: each has its hours, and the last one its totals."""
+    air = Air(ALPHA, START, 100)
+    air._data[:] = 0
+    net = network(tmp_path, air, Plan(dies=0.5))
+    net.run(50, tick=0.25)
+    net.end()
+    query = f"SELECT COUNT(*), SUM(is_open), SUM(finished) {HOURS} GROUP BY recordings.id"
+    assert net.asked(query) == [(1, 0, 1), (2, 0, 1)]
+
+
 COMPRESSED = "[keep]\ncompress = true\n"
 
 
