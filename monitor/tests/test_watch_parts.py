@@ -480,6 +480,7 @@ def test_news_come_each_ten_seconds() -> None:
     one.alarms, one.state = mock.MagicMock(), mock.Mock()  # type: ignore[method-assign]
     one._age = mock.Mock()  # type: ignore[method-assign]
     session.part, session._timing = Part(Clock(0.0), 0, session.contents), Timing(0.0)
+    session._key, session._size = records.PartKey("Alpha 1", 0), 0
     for seconds in (0.0, 9.9, 10.0):
         session._tell(100 + 2 * seconds)
         one.tick(100 + seconds, 0.0)
