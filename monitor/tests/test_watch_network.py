@@ -459,6 +459,18 @@ def test_a_database_that_is_locked_delays_no_row(tmp_path: Path, monkeypatch: py
 # ---- the machine's clock
 
 
+def times_by_session(net: Network) -> Dict[str, List[float]]:
+    """When the groups of each session began, by the names of its files."""
+    found: Dict[str, List[float]] = {}
+    rows = {hour.name: (hour, part) for hour, part in net.hours("Alpha")}
+    for name, path in net.asked(f"SELECT name, path {HOURS} ORDER BY recordings.id, number"):
+        if path.rpartition("/")[2] in rows:
+            hour, part = rows[path.rpartition("/")[2]]
+            places = part[part["what"] == 2]["place"].astype("f8")
+            found.setdefault(name, []).extend((hour.start + places / hour.rate).tolist())
+    return found
+
+
 def test_a_clock_that_is_set(tmp_path: Path) -> None:
     """Forward by an hour and a half, then back by a day. Within a session no time goes back, and each is right soon."""
     net = network(tmp_path, Air(ALPHA, START, 200))
@@ -480,15 +492,7 @@ def test_a_clock_that_is_set(tmp_path: Path) -> None:
     assert [round(begin, 1) for begin, _ in spans] == [0, 5421.9, 5441.9 - 86400]
     assert all(0 <= length <= 71 for _, length in spans)
     net.end()
-    by_session: Dict[str, List[float]] = {}
-    rows = {hour.name: (hour, part) for hour, part in net.hours("Alpha")}
-    for name, path in net.asked(f"SELECT name, path {HOURS} ORDER BY recordings.id, number"):
-        if path.rpartition("/")[2] in rows:
-            hour, part = rows[path.rpartition("/")[2]]
-            groups = part[part["what"] == 2]
-            by_session.setdefault(name, []).extend(
-                (hour.start + groups["place"].astype("f8") / hour.rate).tolist()
-            )
+    by_session = times_by_session(net)
     assert len(by_session) == 2
     for times in by_session.values():
         assert times == sorted(times)

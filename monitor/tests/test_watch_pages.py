@@ -295,7 +295,19 @@ def test_metrics() -> None:
     assert f"rds_watch_timestamp_seconds {UTC:.15g}" in lines
     assert [text.count(f"\nrds_{name}{{") for name in ("clock_offset_seconds", "pi_as_expected")] == [1, 1]
     assert re.findall(r'receiver_up{station="(\w+).*} 1', text) == ["Al", "Beta", "Gamma"]
-    # The rest of one station, and a minute in which nothing was sent.
+    assert kinds_in(text) == KINDS and re.findall(".*disk.*", text) == ['rds_alarm{alarm="disk"} 0']
+
+
+COUNTERS = "rds_receiver_starts_total", "rds_blocks_total"
+KINDS = [(metric.name, "counter" if metric.name in COUNTERS else "gauge") for metric in METRICS]
+
+
+def kinds_in(text: str) -> List[Tuple[str, str]]:
+    return re.findall(r"^# TYPE (\w+) (\w+)$", text, re.M)
+
+
+def test_metrics_of_a_station() -> None:
+    """In its last minute nothing was sent. Rows wait to be written."""
     known = state(running=False, held={"pi": "D319"}, minute={"sent": 0, "valid": 0})
     other = metrics_text({"B": known}, {"B": DAY}, {"disk": "rows wait"}, UTC)
     values = dict(re.findall(r'^rds_(\w+)\{station="B"(?:,outcome="valid")?\} (.*)$', other, re.M))
@@ -314,11 +326,6 @@ def test_metrics() -> None:
         'station_state{station="B",state="good"} 1',
     ):
         assert f"rds_{line}" in other.splitlines()
-    assert [re.findall(".*disk.*", one) for one in (other, text)] == [
-        [f'rds_alarm{{alarm="disk"}} {number}'] for number in (1, 0)
-    ]
+    assert re.findall(".*disk.*", other) == ['rds_alarm{alarm="disk"} 1']
     assert re.findall(r'^rds_alarm\{station="B",alarm="(\w+)"\} 0$', other, re.M) == [*NAMES[:-1]]
-    kinds = [re.findall(r"^# TYPE (\w+) (\w+)$", one, re.M) for one in (text, other)]
-    counters = "rds_receiver_starts_total", "rds_blocks_total"
-    wanted = [(metric.name, "counter" if metric.name in counters else "gauge") for metric in METRICS]
-    assert kinds == [wanted, [one for one in wanted if one[0] != "rds_bad_blocks_ratio"]]
+    assert kinds_in(other) == [one for one in KINDS if one[0] != "rds_bad_blocks_ratio"]
