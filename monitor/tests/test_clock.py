@@ -130,6 +130,13 @@ def test_a_recording_that_is_too_short(station_listing: bytes) -> None:
         fit([])
 
 
+def test_the_first_start() -> None:
+    """Ten minutes from the first one of 1970 on, by a clock that is right."""
+    rows = [minute_group(71250 * n, 60 * n) for n in range(1, 12)]
+    told = said("clock", "--unfinished", data=listing(rows, totals=False))[1]
+    assert told == "11,1,0.17,1187.500000,0.0,0.0,1970-01-01T00:00:00.000Z"
+
+
 def test_ticks_of_one_minute() -> None:
     """Two that say the same minute tell no rate, but those before them do."""
     ticks = [Tick(78000 * minute, 60 * minute) for minute in range(12)]

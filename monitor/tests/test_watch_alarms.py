@@ -114,6 +114,7 @@ def test_block_errors() -> None:
     assert judged.texts[0] == "37.0 % of the blocks bad in 3 min"
     assert Judged("[station.alarms]", "errors = false").minutes(*[99.0] * 9).found == []
     assert Judged().minutes(*[30.0] * 9).found == []
+    assert Judged("[station.alarms]", "errors = 0.5").minutes(99.0).found == [("errors", True, 1.0)]
     assert Judged("[station.alarms]", "errors = 60").minutes(*[99.0] * 60).found == [("errors", True, 60.0)]
     # It ends below four fifths of the limit.
     judged = Judged().minutes(*[31.0] * 3, *[24.0] * 9)
@@ -156,7 +157,8 @@ def test_alternative_frequencies() -> None:
     assert lists.seconds(60).found == []
     lists.held["af:98.1"]["regional"] = [91500]
     assert lists.seconds(60).texts == ["AF 89.3 91.5 98.1 in place of 89.3 98.1"]
-    assert [text for text in Judged("af = [98.1]").seconds(302).texts] == ["AF none in place of 98.1"]
+    none = Judged("af = [98.1]").seconds(302)
+    assert (none.found, none.texts) == ([("af", True, 301.0)], ["AF none in place of 98.1"])
 
 
 def test_no_clock_time() -> None:
@@ -220,6 +222,7 @@ def test_a_dynamic_ps() -> None:
     assert judged.found == []
     judged.seconds(80, ps="BETA    ")
     assert judged.found == [("ps", True, 411.0)]
+    assert judged.texts == ["PS BETA in place of ALPHA or NEWS*"]
     for _ in range(2):
         judged.seconds(2, ps="ALPHA   ").seconds(20, ps="TRAFFIC ")
     assert [begins for _, begins, _ in judged.found] == [True, False]
@@ -229,10 +232,11 @@ def test_an_expected_rt() -> None:
     judged = (
         Judged('rt = "Now: *"')
         .seconds(30, rt="Now: a song")
-        .seconds(70, rt="TEST")
+        .seconds(70, rt="TEST\x1b ")
         .seconds(20, rt="Now: another")
     )
     assert [(name, begins) for name, begins, _ in judged.found] == [("rt", True), ("rt", False)]
+    assert judged.texts[0] == "RT TEST\\x1b in place of Now: *"
     assert [name for name, _, _ in Judged('rt = "Now: *"').seconds(70).found] == ["rt"]
 
 
@@ -265,6 +269,9 @@ def test_ta_and_pty_31() -> None:
         ("pty31", True, 75.0),
         ("pty31", False, 87.0),
     ]
+    # It is on once TP says so.
+    late = Judged("[station.alarms]", "ta = 30").seconds(50, ta=True, tp=False).seconds(40, tp=True)
+    assert late.found == [("ta", True, 81.0)]
 
 
 @pytest.mark.parametrize("sign", [1, -1])
@@ -276,6 +283,7 @@ def test_clock_time(sign: int) -> None:
     limited = Judged("[station.alarms]", "ct_offset = 4")
     limited.ticks(*(sign * offset for offset in (4, 4, 4, 5, 5, 4, 3, 3, 2, 2)))
     assert limited.found == [("ct", True, 5.0), ("ct", False, 10.0)]
+    assert Judged("[station.alarms]", "ct = 0.5").ticks(sign * 7).found == [("ct", True, 1.0)]
 
 
 def test_the_pace_of_bits() -> None:
@@ -294,8 +302,10 @@ def test_the_pace_of_bits() -> None:
     assert Judged().seconds(200, pace=1.01).seconds(200, pace=0.99).found == []
 
 
-def test_seconds_of_an_unknown_pace_count_once_it_is_known() -> None:
-    judged = Judged().seconds(50, pace=1.02).seconds(30, pace=None)
+@pytest.mark.parametrize("how", [{"pace": None}, {"pace": 1.02, "quiet": 3}])
+def test_seconds_of_an_unknown_pace_count_once_it_is_known(how: Dict[str, Any]) -> None:
+    """It is not known, either, while no byte comes."""
+    judged = Judged("[station.alarms]", "silent = false").seconds(50, pace=1.02).seconds(30, **how)
     assert judged.found == []
     assert judged.seconds(5, pace=1.02).found == [("fast", True, 81.0)]
 
@@ -303,6 +313,30 @@ def test_seconds_of_an_unknown_pace_count_once_it_is_known() -> None:
 @pytest.mark.parametrize("offset, count", [(20, 0), (21, 1)])
 def test_clock_time_of_a_faster_watch(offset: int, count: int) -> None:
     assert len(Judged(speed=4).ticks(offset, offset, offset).found) == count
+
+
+def test_what_was_not_known_before_a_session() -> None:
+    """Seconds without a byte, or of an unknown pace, never count. A text fitted when it was last seen."""
+    judged = Judged('ps = "ALPHA"', "[station.alarms]", "rt_stuck = 100", "silent = false")
+    judged.seconds(40, ps="ALPHA", rt="One", pace=1.02).seconds(20, quiet=3)
+    judged.alarms.begin_session(judged.now)
+    judged.seconds(70, ps="BETA", pace=1.02)
+    assert judged.found == [("fast", True, 81.0), ("ps", True, 120.0), ("rt_stuck", True, 121.0)]
+
+
+@pytest.mark.parametrize("late", [-5, 4])
+def test_changes_count_from_when_they_were_sent(late: int) -> None:
+    """The PI of bits that came too early counts from now on."""
+    judged = Judged('pi = "D318"', 'ps = "ALPHA"', "[station.alarms]", "ps = 10").seconds(50, ps="ALPHA")
+    for pi, ps in (("D319", "BETA"), ("D318", "ALPHA")):
+        place, told = TIMING.place(judged.now + 1 - late + AHEAD), {"pi": pi, "ps": ps}
+        events = [Event(place, 0xD318, item, text, None, text) for item, text in told.items()]
+        judged.alarms.take(events, [], [], TIMING, AHEAD)
+        judged.held.update(told)
+        judged.seconds(40)
+    shift = max(late, 0)
+    begun, ended = [("pi", True, 61 - shift), ("ps", True, 61 - late)], [("pi", False), ("ps", False)]
+    assert judged.found == [*begun, *((*of, 101 - shift) for of in ended)]
 
 
 def test_two_texts_at_once_that_are_not_expected() -> None:
@@ -372,6 +406,29 @@ def test_what_is_counted_outlasts_the_watch() -> None:
     assert [found[0] for found in second.found] == ["ct", "rt_stuck", "ps"]
     # 69 s were counted before, of which the PS was another one for 27.
     assert [at for _, _, at in second.found] == [22.0, 52.0, 54.0]
+
+
+def test_what_is_counted() -> None:
+    """In milliseconds: the second watch resumes it, and counts the same."""
+    counted = {
+        "ago": {"rt_stuck": 1.0, "ct_absent": 1.999, "ps_stuck": 1.0},
+        "gone": {"pi": 4.346},
+        "quiet": 0.123,
+        "age": 0.235,
+        "sessions": [2.001],
+        "texts": {"rt": "One"},
+        "minutes": [12.5],
+        "offsets": [pytest.approx(3 - 1 / 1200)],
+    }
+    first, second = Judged('pi = "D318"'), Judged('pi = "D318"')
+    first.alarms.resume({"pi": ("PI D319", 100.0)}, {"gone": {"pi": 2.3456}}, 0.0)
+    first.alarms.begin_session(-0.0006)
+    first.alarms.take([], [12.5], [Tick(TIMING.place(AHEAD) + 1, 1003)], TIMING, AHEAD)
+    for _ in range(2):
+        first.seconds(1, quiet=0.12345, age=0.23456, rt="One")
+    assert first.alarms.counted() == counted
+    second.alarms.resume({"pi": ("PI D319", 102.0)}, first.alarms.counted(), 0.0)
+    assert second.alarms.counted() == {**counted, "quiet": 0, "age": 0}
 
 
 @pytest.mark.parametrize("text", ["{station}", "; rm -rf /", "$(id)", "a\nb", "{state}{text}"])
