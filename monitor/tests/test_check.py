@@ -19,7 +19,7 @@ from conftest import COMMAND, encode, monitor, ran, rds
 from rds_monitor import ITSELF, __version__
 from rds_monitor.rows.items import LOST
 from made import group_row, listing, lock, run, split
-from rds_monitor.watch.check import Reception, _tail
+from rds_monitor.watch.check import Reception, _tail, seen_in
 from rds_monitor.watch.verdict import Limits, Seen, Verdict
 
 VALID = "99.99 % of the blocks valid, last valid group 0.007 s ago"
@@ -101,11 +101,29 @@ def test_limits(valid: float, age: float, status: int) -> None:
 @pytest.mark.parametrize("seconds, pi", [(9.9, 0xD393), (10.1, None)])
 def test_a_programme_has_three_groups(seconds: float, pi: Any) -> None:
     """With ten seconds at most between two of them."""
-    reception = Reception(1187.5, False)
-    places = (0, 104, 208 + int(seconds * 1187.5))
+    reception = Reception(1300.0, False)
+    places = (0, 104, 208 + int(seconds * 1300))
     reception.add(numpy.concatenate([group_row(place, (0xD393, 0x0548, 0xE0CD, 0x5041)) for place in places]))
     reception.close()
     assert reception.pi == pi
+
+
+def test_names_of_the_last_minute() -> None:
+    """Of 60 s by the rate, and the one that held as it began."""
+    reception = Reception(1300.0, True)
+    reception.end, names = 100000, [(0, "GONE"), (21999, "HELD"), (22000, "AT"), (99999, "NOW")]
+    setattr(reception, "_names", names)
+    assert reception.names() == ["HELD", "AT", "NOW"]
+
+
+@pytest.mark.parametrize("end, quiet, sent", [(103, 4.9, 4), (1404, 4.9, 54), (1404, 5, 304)])
+def test_blocks_are_missed_after_five_seconds(end: int, quiet: float, sent: int) -> None:
+    """A file may be between two writes. Where its last block is cut, no more than all are valid."""
+    reception = Reception(1300.0, False)
+    reception.add(group_row(0, (0xD393, 0x0548, 0xE0CD, 0x5041)))
+    reception.end = end
+    age = pytest.approx((end - 104) / 1300 + quiet)
+    assert seen_in(reception, quiet, 1300.0) == Seen(400 / sent, 0, age, None, [])
 
 
 def test_what_is_told_of_the_last_minute() -> None:
@@ -174,6 +192,9 @@ def test_a_growing_listing(tmp_path, station_listing: bytes) -> None:
     judged(
         1, "RDS WARNING - 85.?? % of the blocks valid, last valid group 15.??? s ago | *", "--last 300", path
     )
+    # By a clock that was set back.
+    ago(path, -30)
+    judged(0, f"{WHOLE} | *", "--last 20", path)
 
 
 def test_an_hours_file_that_began_40_seconds_ago(tmp_path, station_listing: bytes) -> None:
@@ -188,6 +209,8 @@ def test_an_hours_file_that_began_40_seconds_ago(tmp_path, station_listing: byte
     # One that has no row yet: the hour before is judged.
     now.write_bytes(b"")
     judged(0, "RDS OK - 100.00 % *", "--last", 300, before, now)
+    ago(before, 30)
+    judged(1, "RDS WARNING - 7?.?? % *, last valid group 30.??? s ago | *", "--last", 300, before, now)
     # An hour's file in which the station went away.
     place = int(lines[1399].split(b",")[1])
     damage = b"".join(b"group,%d,-,?,lost,lost,lost,lost\n" % (place + 104 * n) for n in range(1, 300))
@@ -338,7 +361,7 @@ def test_names_are_text(tmp_path) -> None:
 
 
 def test_what_cannot_be_judged(tmp_path, listed, station_listing: bytes) -> None:
-    judged(3, f"RDS UNKNOWN - there is no file {tmp_path}/none to read", tmp_path / "none")
+    judged(3, f"RDS UNKNOWN - there is no file {tmp_path}/no \\x07ne to read", tmp_path / "no\n\ane")
     empty, cut, table = tmp_path / "empty", tmp_path / "cut.csv", tmp_path / "table.csv"
     empty.write_bytes(b"")
     cut.write_bytes(station_listing[:50000])
@@ -378,12 +401,21 @@ def test_command_lines_that_are_none(words: List[str], fault: str) -> None:
     assert fault in judged(3, "RDS UNKNOWN - *", *words)
 
 
+def test_a_fault_of_the_program_is_unknown(sample, monkeypatch: pytest.MonkeyPatch) -> None:
+    monkeypatch.setattr("rds_monitor.watch.check.open_end", {}.pop)
+    judged(3, "RDS UNKNOWN - TypeError: *", sample)
+
+
 def test_limits_of_which_one_is_given(sample) -> None:
     for words, limits in (
         (("-w", 30), "30:;30:"),
+        (("-w", 60), "60:;50:"),
         (("-c", 95), "95:;95:"),
+        (("-c", 30), "90:;30:"),
         (("-W", 100), "age=0.007s;100;100"),
+        (("-W", 5), "age=0.007s;5;60"),
         (("-C", 5), "0.007s;5;5"),
+        (("-C", 90), "0.007s;10;90"),
     ):
         assert limits in judged(0, "RDS OK - *", *words, sample)
 
