@@ -9,6 +9,7 @@ import lzma
 import os
 import subprocess
 import time
+from unittest import mock
 from typing import Any, List
 
 import numpy
@@ -223,6 +224,16 @@ def test_an_hours_file_that_began_40_seconds_ago(tmp_path, station_listing: byte
     )
 
 
+def test_whole_hours_files_need_no_totals(tmp_path, station_listing: bytes) -> None:
+    """By their names: each is judged from its first row on."""
+    lines = station_listing.splitlines(keepends=True)[943:1400]
+    hour, other = tmp_path / "2026-11-27T03Z_20261127T030000.000Z.csv", tmp_path / "it.csv"
+    hour.write_bytes(b"".join(lines[:200]))
+    other.write_bytes(b"".join(lines[200:]))
+    judged(0, "RDS OK - 100.00 % *", hour)
+    judged(3, "RDS UNKNOWN - row 1: a listing begins with an acquisition: *", hour, other)
+
+
 def restarted(tmp_path, second: bytes, totals: bool) -> Any:
     """A followed stream: a station for a minute, ended or killed, and what came after the restart."""
     groups = [(0xD393, 0x0548 + n % 4, 0xE0CD, 0x5041) for n in range(700)]
@@ -285,6 +296,12 @@ def test_only_the_end_of_a_long_file_is_read(tmp_path) -> None:
     # In 2.08 s there are 95 blocks, which are no whole number of bytes; 39 are valid, since the first of ten groups acquires sync.
     path.write_bytes(bytes(1000) + encode([[0xD393, 0x0548, 0xE0CD, 0x5041]] * 10))
     judged(2, f"RDS CRITICAL - {100 * 39 / 95:.2f} % of the blocks valid*", "--last", 2.08, path)
+    # At 1300 bits per second there are 104.
+    judged(2, f"RDS CRITICAL - {100 * 39 / 104:.2f} % *", "--last 2.08", "--rate 1300", path)
+    # Of symbols each is a byte.
+    bits = numpy.unpackbits(numpy.frombuffer(path.read_bytes(), "u1"))
+    path.write_bytes((240 * numpy.bitwise_xor.accumulate(bits) - 120).astype("i1").tobytes())
+    judged(2, "RDS CRITICAL - 4?.?? % *", "--last 2.08", "--soft", path)
 
 
 # ---- the length, and names
@@ -379,6 +396,8 @@ def test_what_cannot_be_judged(tmp_path, listed, station_listing: bytes) -> None
     )
     judged(3, "RDS UNKNOWN - --length 'none': No such file or directory", "--length", "none", listed)
     judged(3, "RDS UNKNOWN - *: Is a directory", tmp_path)
+    judged(3, "RDS UNKNOWN - of several inputs each must be a file", "-", listed, data=b"x")
+    judged(3, "RDS UNKNOWN - --length is for a listing", "--length 8", "-", data=b"x")
 
 
 @pytest.mark.parametrize(
@@ -401,9 +420,12 @@ def test_command_lines_that_are_none(words: List[str], fault: str) -> None:
     assert fault in judged(3, "RDS UNKNOWN - *", *words)
 
 
-def test_a_fault_of_the_program_is_unknown(sample, monkeypatch: pytest.MonkeyPatch) -> None:
-    monkeypatch.setattr("rds_monitor.watch.check.open_end", {}.pop)
-    judged(3, "RDS UNKNOWN - TypeError: *", sample)
+@pytest.mark.parametrize(
+    "fault, told", [(OSError(5, "broken"), "reading: broken"), (KeyError(5), "KeyError: 5")]
+)
+def test_a_fault_of_any_kind_is_unknown(fault: Exception, told: str, monkeypatch: pytest.MonkeyPatch) -> None:
+    monkeypatch.setattr("rds_monitor.watch.check.open_end", mock.Mock(side_effect=fault))
+    judged(3, f"RDS UNKNOWN - {told}", "it")
 
 
 def test_limits_of_which_one_is_given(sample) -> None:
