@@ -117,6 +117,7 @@ def test_when_a_delay_counts(late: float, delay: float, is_late: bool, speed: in
     for second in range(1, 21):
         arrivals.take(int(speed * second * RATE), BEGIN + speed * (second + (late if second > 5 else 0)))
     assert arrivals.delay() == pytest.approx(speed * delay, abs=0.002) and arrivals.is_late() == is_late
+    assert arrivals.ahead == 0
 
 
 @at_each_speed
