@@ -192,13 +192,13 @@ def test_valid_blocks_that_part_two_outages(blocks: int, outages: int, database)
 
 
 def test_the_views_of_written_rows(database) -> None:
-    """Two sessions of other rates, the second from where the first ends; rows whose numbers all differ."""
+    """Two sessions of other rates, the second from where the first ends, and one of another station; rows whose numbers all differ."""
     store.Store(str(database)).close()
     change(
         database,
-        "INSERT INTO recordings VALUES(1, 'first', 'X'), (2, 'second', 'X')",
+        "INSERT INTO recordings VALUES(1, 'first', 'X'), (2, 'second', 'X'), (3, 'third', 'Y')",
         "INSERT INTO sessions VALUES(1, 1, 0, 86340, 1000, 60500, 0, 100000, 1, NULL),"
-        "(2, 2, 0, 86440, 3000, 180000, 0, 120000, 0, 117000)",
+        "(2, 2, 0, 86440, 3000, 180000, 0, 120000, 0, 117000), (4, 3, 0, 86441, 1000, 60000, 0, 2000, 1, NULL)",
         *(
             f"INSERT INTO minute_rows(session, minute, sent, valid, corrected, lost, missing, more) VALUES({row})"
             for row in (
@@ -208,8 +208,9 @@ def test_the_views_of_written_rows(database) -> None:
             )
         ),
         "INSERT INTO outage_rows VALUES(1, 10000, 11000), (1, 12000, 14500), (1, 14650, 14950), (1, 98500, 100000)",
-        "INSERT INTO outage_rows VALUES(2, 0, 4500), (2, 4650, 9000), (2, 60000, 63001)",
+        "INSERT INTO outage_rows VALUES(2, 0, 4500), (2, 4650, 9000), (2, 60000, 63001), (4, 0, 1000)",
         "INSERT INTO watched_rows VALUES(1, 'X', 86330, 86500), (2, 'X', 86510.5, 86512), (3, 'X', 86520, 86520.15)",
+        "INSERT INTO watched_rows VALUES(4, 'X', 86520.5, 86520.58), (5, 'Y', 86430, 86435)",
         "INSERT INTO alarm_rows VALUES(1, 'X', 'pi', 1000.25, 1003.62, 'D319'), (2, 'Y', 'ps', 2000, NULL, 'BETA')",
         "INSERT INTO run_rows VALUES(1, 'X', 1000.5, 2000.75, 'it ended')",
         "INSERT INTO station_rows VALUES('X', 3000.125, 'fine')",
@@ -234,6 +235,7 @@ def test_the_views_of_written_rows(database) -> None:
         (14650, 14950, day + "14.650Z", day + "14.950Z", 0.3),
         (98500, 100000, next_day + "0:38.500Z", next_day + "0:40.000Z", 1.5),
         (0, 4500, next_day + "0:40.000Z", next_day + "0:41.500Z", 1.5),
+        (0, 1000, next_day + "0:41.000Z", next_day + "0:42.000Z", 1.0),
         (4650, 9000, next_day + "0:41.550Z", next_day + "0:43.000Z", 1.45),
         (60000, 63001, next_day + "1:00.000Z", next_day + "1:01.000Z", 1.000333),
         (117000, None, next_day + "1:19.000Z", None, 1.0),
@@ -244,7 +246,9 @@ def test_the_views_of_written_rows(database) -> None:
         (day + "10.000Z", day + "11.000Z", 1.0, "noise"),
         (day + "12.000Z", day + "14.500Z", 2.5, "noise"),
         (day + "14.650Z", day + "14.950Z", 0.3, "noise"),
+        (next_day + "0:30.000Z", None, 5.0, "down"),
         (next_day + "0:38.500Z", next_day + "0:43.000Z", 4.5, "noise"),
+        (next_day + "0:41.000Z", next_day + "0:42.000Z", 1.0, "noise"),
         (next_day + "1:00.000Z", next_day + "1:01.000Z", 1.0, "noise"),
         (next_day + "1:19.000Z", None, 1.0, "noise"),
         (next_day + "1:20.000Z", None, 20.0, "down"),
@@ -254,7 +258,8 @@ def test_the_views_of_written_rows(database) -> None:
     # 2300 blocks at 1000 bits per second are 59.8 s; 1530, and 3000 at 3000, 65.78 s.
     assert asked(database, "SELECT * FROM days") == [
         ("X", "1970-01-01", 0.02, 2300, 2000, 86.96, 56.2, 3.8, 10.0, 86330.0),
-        ("X", "1970-01-02", 0.02, 4530, 3900, 86.09, 73.55, 6.45, 21.65, 86298.35),
+        ("X", "1970-01-02", 0.02, 4530, 3900, 86.09, 73.55, 6.45, 21.73, 86298.27),
+        ("Y", "1970-01-02", 0.0, 0, 0, None, 1.0, 1.0, 3.0, 86395.0),
     ]
 
     # All of its sessions: when it was watched for longer; for 20 seconds of them; and when another one has the same time. A time without
@@ -277,6 +282,7 @@ def test_the_views_of_written_rows(database) -> None:
             assert asked(database, "SELECT received_s, noise_s, down_s, unknown_s FROM days") == [
                 (56.2, 3.8, 0.0, 86340.0),
                 (73.55, 6.45, 0.0, 86320.0),
+                (1.0, 1.0, 0.0, 86398.0),
             ]
 
 
