@@ -22,7 +22,7 @@ from modulator import Array, iq, mpx, stored, wav, words
 
 from rds_monitor.rows.items import Fault
 from rds_monitor.signal import form
-from rds_monitor.signal.pack import READERS, Conversion, bits_of, packed_of
+from rds_monitor.signal.pack import READERS, BitWriter, Conversion, bits_of, packed_of
 from rds_monitor.signal.rates import BLOCK, _by_pilot, likely_rate
 from rds_monitor.signal.samples import FORMS as FORMS_OF_SAMPLES, Flac, numbers
 
@@ -320,6 +320,14 @@ def test_symbols_are_bits_that_are_decoded() -> None:
     )
     done = monitor("pack", "--from", "soft", "--differential", data=b"\1\xff")
     assert done.returncode == 2 and b"--differential is for bits" in done.stderr
+    done = monitor("pack", "--from", "bytes", "--lsb-first", data=b"\1")
+    assert done.returncode == 2 and b"--lsb-first is for packed bits and hex" in done.stderr
+
+
+def test_whole_bytes_are_written_at_once(tmp_path: Path) -> None:
+    writer = BitWriter(str(tmp_path / "it"), True)
+    writer.push(numpy.ones(9, "u1"))
+    assert (tmp_path / "it").read_bytes() == b"\xff" and writer.written == 9
 
 
 class Trickle:

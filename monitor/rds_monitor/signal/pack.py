@@ -142,7 +142,7 @@ def bits_of(stream: BinaryIO, form: str, change: Conversion = Conversion()) -> I
             bits = bits.reshape(-1, 8)[:, ::-1].ravel()
         if change.inverted:
             bits = bits ^ numpy.uint8(1)
-        if change.differential and bits.size:
+        if change.differential:
             both = numpy.concatenate([last, bits])
             last, bits = both[-1:], both[1:] ^ both[:-1]
         yield bits
