@@ -22,7 +22,12 @@ def why(data: bytes, *words: str) -> Tuple[int, str]:
 # The input, the words, and the number and name of the error with the lines that tell where it is.
 CASES = [
     (b"\x1b[2J", "encode", "12 GroupText", ["line 1: \\x1b[2J"]),
-    (b"12\n\n3g", "scan --hex", "11 HexText", ["byte 6 (line 3, column 2) is 0x67, neither a digit nor blank"]),
+    (
+        b"12\n\n3g",
+        "scan --hex",
+        "11 HexText",
+        ["byte 6 (line 3, column 2) is 0x67, neither a digit nor blank"],
+    ),
     (b"\n3g", "scan --hex", "11 HexText", ["byte 3 (line 2, column 2) is 0x67, neither a digit nor blank"]),
     (b"1 2\n3", "list --hex", "11 HexText", ["there are 3 digits, an odd number"]),
     (b"0000", "totals --gaps 1-2,9-9", "16 BadGaps", ["gap 2, 9-9, is empty"]),
