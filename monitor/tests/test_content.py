@@ -178,7 +178,10 @@ CASES: Dict[str, Case] = {
     "8A: TMC message of another application": Case(
         [oda(0x1234, "8A"), group("8A", 0b01101, 701, 4321)], {"tmc_message": None}
     ),
-    "8A: TMC provider": Case(TRAFFIC, {"tmc_provider": "Traffic1"}),
+    "8A: TMC provider, with other variants between": Case(
+        [TRAFFIC[0], group("8A", 0x13, 1, 2), group("8A", 0x16, 1, 2), TRAFFIC[1]],
+        {"tmc_provider": "Traffic1"},
+    ),
     "8A: another application": Case([oda(0x1234, "8A"), *TRAFFIC], {"tmc": None, "tmc_provider": None}),
     "5A: another application": Case([oda(0x1234, "5A"), group("5A", 3, 1, 2)], {"tdc:3": None}),
     "7A: an application that comes later": Case([group("7A", 3, 1, 2), oda(0x1234, "7A")], {"rp": None}),
@@ -199,11 +202,11 @@ CASES: Dict[str, Case] = {
     ),
     "14A: mapped frequencies": Case(
         [
-            *(eon(5, 0x0132), eon(6, 0x0264), eon(7, 0x0396), eon(8, 0xCCCC), eon(8, 0x05CD), eon(8, 0x0600)),
+            *(eon(5, 0x0132), eon(6, 0x0264), eon(7, 0x6A96), eon(8, 0xCCCC), eon(8, 0x05CD), eon(8, 0x0600)),
             *(eon(9, 0x0110), eon(9, 0x0287), eon(9, 0x0388), eon(9, 0x0400), eon(9, 0x0501)),
         ],
         {
-            **{f"eon:D312.mapped:{at}": to for at, to in ((87.6, 92500), (87.7, 97500), (87.8, 102500))},
+            **{f"eon:D312.mapped:{at}": to for at, to in ((87.6, 92500), (87.7, 97500), (98.1, 102500))},
             **{"eon:D312.mapped:107.9": 107900, "eon:D312.mapped:88.0": None, "eon:D312.mapped:88.1": None},
             **{"eon:D312.mapped:87.6.am": 531, "eon:D312.mapped:87.7.am": 1602},
             **{"eon:D312.mapped:87.8.am": None, "eon:D312.mapped:87.9.am": None},
@@ -328,6 +331,9 @@ CASES: Dict[str, Case] = {
     ),
     "DAB service": Case([oda(0x0093, "12A"), group("12A", 0x10, 0, 0xD310)], {"dab_service:D310": True}),
     "one frequency": Case(name(b"PAXO 318", [0xE16A]), {"af": [98100]}, texts={"af": "98.1"}),
+    "pairs before any head": Case(
+        name(b"PAXO 318", [0x1E32, 0x465A, 0xE10A]), {"af": [88500]}, {"data": True}
+    ),
     "no list": Case(name(b"PAXO 318", [0xE001]), {"af": []}, texts={"af": "none"}),
     "a list of 25": Case(
         [group("0A", k % 4, pair, 0x2020) for k, pair in enumerate(OF_25)], {"af": ALL_OF_25}
@@ -385,13 +391,15 @@ def test_values_that_hold(title: str, tmp_path: Any) -> None:
 
 
 def test_every_item_and_group_type_has_a_case() -> None:
-    """The items of the help and those of the cases, by their names alone."""
+    """The items of the help and those of the cases, by their names alone; the help's own are among those of the cases."""
 
     def bare(item: str) -> str:
         return re.sub(r"^eon:[^.]+|:.*", "", item)
 
-    listed = {bare(word) for word in re.sub(r"\(.*?\)", "", ITEMS).split()}
-    assert {bare(item) for case in CASES.values() for item in case.held} == listed
+    words = re.sub(r"\(.*?\)", "", ITEMS).split()
+    items = {item for case in CASES.values() for item in case.held}
+    assert {bare(item) for item in items} == {bare(word) for word in words}
+    assert items >= {re.sub(r"^\.", "eon:D312.", word) for word in words}
     kinds = {name_of(words[1] >> 11) for case in CASES.values() for words in case.groups}
     assert kinds >= {*"0A 0B 1A 1B 2A 2B 3A 4A 5A 5B 6A 6B 7A 8A 9A 10A 11A 12A 13A 14A 14B 15A 15B".split()}
 
@@ -498,6 +506,11 @@ SEQUENCES: Dict[str, Tuple[List[Words], str, List[Any]]] = {
         ),
         ["Song", "Work"],
     ),
+    "two tags in turn": (
+        [RT_PLUS, *SONG, *(tags(1, 1, one) for one in (TITLE, (1, 8, 5), TITLE))],
+        "rt_plus:item.title",
+        ["Song", "Singer", "Song"],
+    ),
     "a part that comes after another one of its message has changed": (
         *([label(0, 0xE0), label(0, 0xE1), label(3, 8)], "language"),
         ["08"],
@@ -506,11 +519,21 @@ SEQUENCES: Dict[str, Tuple[List[Words], str, List[Any]]] = {
         *([oda(0x1234, "7A"), group("7A", 3, 1, 2), oda(0x1234, "9B"), group("7A", 3, 1, 2)], "rp"),
         [True],
     ),
+    "RT+ in groups that another application had, and has left for others": (
+        [oda(0x1234, "13A"), oda(0x5678, "11A"), RT_PLUS, oda(0x5678, "12A"), *SONG, tags(1, 1, TITLE)],
+        "rt_plus:item.title",
+        ["Song"],
+    ),
     "TMC whose application is told": ([TMC, oda(0xCD46, "8A"), TMC], "tmc", [True]),
     "TMC whose groups another application has": ([TMC, oda(0x1234, "8A"), TMC], "tmc", [True, None]),
     "TA of 14B and of variant 13": (
         *([eon(13, 17 << 11), group("14B", 0x18, 0, 0xD312), eon(13, 17 << 11)], "eon:D312.ta"),
         [False, True, False],
+    ),
+    "halves of a name in two versions": (
+        name(b"PAXO 318")[:2] + name(b"PAXO 318", kind="0B")[2:],
+        "ps",
+        ["PAXO 318"],
     ),
     "names of two networks": (name(b"PAXO 318") + eon_name(b"OTHER FM"), "ps", ["PAXO 318"]),
 }
@@ -565,10 +588,12 @@ def test_for_how_long_a_pair_of_a_text_counts(bits: float, texts: List[str]) -> 
 
 @pytest.mark.parametrize("bits, names", [(10 * 1187.5, PAXO), (10 * 1187.5 + 1, [*PAXO, None, *PAXO])])
 def test_after_how_long_an_outage_a_name_is_told_again(bits: float, names: List[Any]) -> None:
-    """If more than ten seconds are from the begin of one group to that of the next."""
+    """If more than ten seconds are from the begin of one group to that of the next; the last groups come in another chunk, too."""
     rows = sent.rows_of(2 * name(b"PAXO 318"))
     rows["place"][5:] += numpy.uint64(bits - 104)
-    assert told(Decoder(lapses=True).feed(rows), "ps") == names
+    for cut in (7, len(rows)):
+        decoder = Decoder(lapses=True)
+        assert told(decoder.feed(rows[:cut]) + decoder.feed(rows[cut:]), "ps") == names
 
 
 LONG_ONCE = text(LONG)
@@ -642,9 +667,12 @@ def test_signs_after_an_end_count_since_the_last_cut() -> None:
 # ---- lists of frequencies that change
 
 
-def lists(pairs: Sequence[int]) -> List[Any]:
-    groups = [group("0A", 8 | k % 4, pair, 0x2020) for k, pair in enumerate(pairs)]
-    return [event.value for event in events_of(groups) if event.item.startswith("af")]
+def lists(pairs: Sequence[int], size: int = 999) -> List[Any]:
+    """All that are told of pairs that come in chunks of this size."""
+    rows = rows_of([group("0A", 8 | k % 4, pair, 0x2020) for k, pair in enumerate(pairs)])
+    decoder = Decoder()
+    events = [event for at in range(0, len(rows), size) for event in decoder.feed(rows[at : at + size])]
+    return [event.value for event in events if event.item.startswith("af")]
 
 
 def by_b(tuned: int, same: Sequence[int], regional: Sequence[int] = ()) -> Dict[str, Any]:
@@ -658,8 +686,26 @@ ALL_OF_B, ALL_B_CHANGED = by_b(89300, [99500], [101700]), by_b(89300, [100000], 
 LISTS = {
     "method A changes one entry": (10 * A + 10 * CHANGED + 10 * A, [ALL_OF_A, ALL_CHANGED, ALL_OF_A]),
     "method A changes within two turns": (3 * A + 2 * CHANGED, [ALL_OF_A, ALL_CHANGED]),
+    # The second chunk of 61 rows, of which one is an acquisition, has the last two turns.
+    "method A changes one entry after its first turn": (
+        A + 19 * CHANGED + 2 * A,
+        [ALL_OF_A, ALL_CHANGED, ALL_OF_A],
+    ),
+    "method A with a code that is assigned to nothing": (
+        [0xE40A, 0x1E32, 0xDF12],
+        [[88500, 90500, 92500, 89300]],
+    ),
+    "method A of one frequency, by heads that follow each other up and down": (
+        [0xE102, 0xE103, 0xE105, 0xE104],
+        [[87700], [87800], [88000], [87900]],
+    ),
     "method A grows": (5 * A + 5 * [0xE60A, 0x1E32, 0x465A, 0x64CD], [ALL_OF_A, [*ALL_OF_A, 97500]]),
     "method B changes one entry": (10 * B + 10 * B_CHANGED + 10 * B, [ALL_OF_B, ALL_B_CHANGED, ALL_OF_B]),
+    # In chunks of four the second pair comes in another one than its head.
+    "method B of two transmitters, of which a pair has both": (
+        3 * [0xE312, 0x1250, 0xE378, 0x1278],
+        [by_b(89300, [95500]), by_b(99500, [89300])],
+    ),
     # The order of a pair alone says whether its frequency is of a regional variant.
     "method B becomes regional": (
         10 * [0xE312, 0x1278] + 10 * [0xE312, 0x7812],
@@ -685,7 +731,7 @@ LISTS = {
 def test_a_list_that_changes(title: str) -> None:
     """Of the station, or by method A of another network."""
     pairs, found = LISTS[title]
-    assert lists(pairs) == found
+    assert lists(pairs) == lists(pairs, 1) == lists(pairs, 4) == lists(pairs, 61) == found
     if "method A" in title:
         assert values([eon(4, pair) for pair in pairs], "eon:D312.af") == found
 

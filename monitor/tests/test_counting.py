@@ -12,7 +12,7 @@ from hypothesis import given, settings, strategies as st
 from network import Programme
 from rds_monitor.content.decoder import Decoder, Event
 from rds_monitor.rows.items import CORRECTED, LOST
-from sent import PI, Damage, Words, clock, events_of, group, name, oda, rows_of, tags, text, told
+from sent import PI, Damage, Words, clock, events_of, group, name, oda, rows_of, tags, text, told, type_name
 from test_contents_random import Station, damage_of
 
 NAMED = name(b"PAXO 318")
@@ -48,9 +48,9 @@ NINE = 2 * NAMED + 2 * name(b"PAXO 319") + NAMED[:1]
 AGAIN = each([11, 15], MEND[4]) + each([12, 16], LOSE[4])
 # Of the second turn only one segment is heard.
 GAP = each([5, 6, 7], *LOSE.values()) + each([0, 4, 9, 10, 11, 12], LOSE[4])
-# Of classes 1 and 32, and of class 1 alone.
+# Of classes 1 and 32, and of classes 1 and 4 alone.
 TAGGED = [*NAMED[:1], oda(0x4BD7, "11A"), *text(b"Title Album Station\r")]
-TAGGED += 2 * [tags(1, 1, (1, 0, 4), (32, 12, 6)), tags(1, 1, (1, 6, 4))]
+TAGGED += 2 * [tags(1, 1, (1, 0, 4), (32, 12, 6)), tags(1, 1, (1, 6, 4)), tags(1, 1, (4, 6, 4))]
 GUEST = NAMED + [(0xD319, *group("6A", 0, pty=5)[1:])] + NAMED
 PAXO = ["PAXO 318"]
 # By their titles, groups with their damage, the items, and the values that are told of these.
@@ -84,8 +84,15 @@ CASES: Dict[str, Tuple[List[Words], List[Tuple[int, Damage]], str, List[Any]]] =
     "a feature in corrected blocks": (TRAFFIC, each([4, 5], MEND[2]), "tmc", []),
     "a feature once in a valid block": (TRAFFIC, each([4], LOSE[4]) + each([5], MEND[2]), "tmc", []),
     "a feature in two valid blocks": (TRAFFIC, each([4, 5], LOSE[4]), "tmc", [True]),
-    "tags of two pairs of classes in turn": (
-        *(TAGGED, each(range(7, 11), LOSE[1]), "rt_plus:item.title", ["Title", "Album"]),
+    "tags of three pairs of classes in turn": (
+        *(TAGGED, each(range(7, 13), LOSE[1]), "rt_plus:item.title", ["Title", "Album"]),
+    ),
+    "a TMC service by a variant with another one in between": (
+        *(NAMED + [oda(0xCD46, "8A", bits) for bits in (0x0066, 0x2066, 0x0066)], each([4, 5, 6], LOSE[1])),
+        *("tmc_service", []),
+    ),
+    "zeros that are corrected, and lost the next time": (
+        *(2 * type_name(b"Jazz\0\0\0\0"), [(1, MEND[3]), (3, LOSE[3])], "ptyn", ["Jazz"]),
     ),
     "an application by a wrong correction": (TAKEN, each([4], MEND[4]), "rt oda:1234", ["A text"]),
 }
@@ -119,10 +126,10 @@ def test_blocks_2_and_3_of_two_versions_are_passed_over() -> None:
 
 
 def test_variants_in_turn_come_twice_alike() -> None:
-    """The two variants of a TMC service alternate; each of them counts by itself."""
-    groups = NAMED + 2 * [oda(0xCD46, "8A", 0x0066), oda(0xCD46, "8A", 0x6280)]
-    found = of(groups, each(range(4, 8), LOSE[1]), "tmc_service")
-    assert found[-1]["location_table"] == 1 and found[-1]["service"] == 10
+    """The two variants of a TMC service alternate, with one of another application; each of them counts by itself."""
+    groups = NAMED + 2 * [oda(0xCD46, "8A", 0x0066), oda(0xCD47, "8A", 0x00A6), oda(0xCD46, "8A", 0x6280)]
+    found = of(groups, each(range(4, 10), LOSE[1]), "tmc_service")
+    assert [(one["location_table"], one.get("service")) for one in found] == [(1, None), (2, None), (2, 10)]
 
 
 def test_a_channel_of_both_versions_is_told_by_the_first_group() -> None:

@@ -39,7 +39,7 @@ class Held(NamedTuple):
 class Teller:
     """Collects the events of the programme that is received."""
 
-    def __init__(self, lapses: bool = False) -> None:
+    def __init__(self, lapses: bool) -> None:
         """With `lapses`, a name or text that is in change is told as None, and told again even if it is the same."""
         self.pi, self.place = -1, 0
         self.held: Dict[str, Held] = {}

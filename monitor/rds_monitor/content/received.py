@@ -175,9 +175,7 @@ def _said(groups: Groups, look: TextLook, rows: Array) -> Distinct:
 class Received:
     """The reception of one programme. `news` takes the next groups of it."""
 
-    def __init__(
-        self, everything: bool = False, kinds: Sequence[int] = tuple(Kind), lapses: bool = True
-    ) -> None:
+    def __init__(self, everything: bool, kinds: Sequence[int], lapses: bool) -> None:
         """News of these kinds are of use. With `everything`, all that counts is news: slow, and the measure that `news` is tested by."""
         self._everything = everything
         self._evidence, self._frequencies = Evidence(), FrequencyNews()
