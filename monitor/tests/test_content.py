@@ -687,10 +687,16 @@ LISTS = {
     "method A changes one entry": (10 * A + 10 * CHANGED + 10 * A, [ALL_OF_A, ALL_CHANGED, ALL_OF_A]),
     "method A changes within two turns": (3 * A + 2 * CHANGED, [ALL_OF_A, ALL_CHANGED]),
     # The second chunk of 61 rows, of which one is an acquisition, has the last two turns.
-    "method A changes one entry after its first turn": (
-        A + 19 * CHANGED + 2 * A,
-        [ALL_OF_A, ALL_CHANGED, ALL_OF_A],
-    ),
+    **{
+        f"method A changes its pair {pair:04X} after its first turn": (
+            A + 19 * [other if one == pair else one for one in A] + 2 * A,
+            [ALL_OF_A, found, ALL_OF_A],
+        )
+        for pair, other, found in (
+            (0x465A, 0x4664, ALL_CHANGED),
+            (0x1E32, 0x1E3C, [88500, 90500, 93500, 94500, 96500]),
+        )
+    },
     "method A with a code that is assigned to nothing": (
         [0xE40A, 0x1E32, 0xDF12],
         [[88500, 90500, 92500, 89300]],

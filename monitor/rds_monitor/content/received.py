@@ -46,8 +46,9 @@ class FrequencyNews:
         head = numpy.where(recent >= 0, counted.value[recent], self.head)
         self.head = int(head[-1])
         chosen = numpy.zeros(head.size, bool)
+        # Pairs before any head are of none.
         heads = head[steps_of(head, -1) != 0]
-        for one in numpy.unique(heads[heads >= 0]).tolist():
+        for one in numpy.unique(heads).tolist():
             index = numpy.flatnonzero(head == one)
             chosen[index] = self._news_of(one, counted.value[index]) | everything
         key = key_of(Kind.AF, head, counted.value)
