@@ -58,6 +58,7 @@ CASES: Dict[str, Tuple[List[Words], List[Tuple[int, Damage]], str, List[Any]]] =
     "corrected blocks alone give no PI": (THRICE, each(range(12), MEND[1], LOSE[3]), "pi tp pty ps", []),
     "corrected blocks alone give no flags": (THRICE, each(range(12), MEND[2]), "pty tp", []),
     "a corrected block 2 once": (NAMED, each(range(4), MEND[2]), "ps", []),
+    "a corrected block 2 once, of a known programme": (TWICE[:5], each(range(1, 5), MEND[2]), "ps", []),
     "a corrected block 2 again": (THRICE, each(range(12), MEND[2]), "ps", PAXO),
     "a corrected block 4 once": (NAMED, each(range(4), MEND[4]), "ps", []),
     "a corrected block 4 again": (THRICE, each(range(12), MEND[4]), "ps", PAXO),
@@ -290,6 +291,11 @@ OFTEN, NEXT = NAMED + 3 * NAMED[:1] + 3 * NAMED, OTHER_FM[3:] + 5 * OTHER_FM
 PASSED = {
     "a name whose last segment changes": (OFTEN + NAMED[:3] + NEXT, []),
     "the same after a segment that is repeated": (OFTEN + NAMED[:2] + NAMED[1:3] + NEXT, []),
+    # The first group of another chunk ends the second whole turn after the lost group.
+    "a text without an end, of which a group was lost": (
+        5 * text(b"Without any end here"),
+        each([4], *LOSE.values()),
+    ),
     "a text that ends early twice, and whose end is in doubt": (
         20 * AB + AB[:1] + AB + 2 * AB[:1] + A_B + AB[:1] + A_B + 8 * AB[:1],
         each([45], MEND[4]),
