@@ -283,6 +283,10 @@ CASES: Dict[str, Case] = {
             **{"ert_plus_running": True, "ert_plus_toggle": 0},
         },
     ),
+    "RT+ of tags that begin alike, and of others that end alike": Case(
+        [RT_PLUS, *SONG, tags(1, 1, TITLE, (2, 0, 13)), tags(1, 1, ARTIST, (2, 0, 13))],
+        {**TAGGED, "rt_plus:item.album": "Song by Singer"},
+    ),
     "RT+ of two tags of one class": Case(
         [RT_PLUS, *text(b"Anna and Berta\r"), tags(1, 1, (4, 0, 3), (4, 9, 4))],
         {"rt_plus:item.artist": "Anna", "rt_plus:item.artist:2": "Berta"},
