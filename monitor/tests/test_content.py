@@ -95,6 +95,7 @@ CASES: Dict[str, Case] = {
     "2A: RT without an end, once": Case(text(b"Twelve signs"), {"rt": None}),
     "2A: line break, headline, soft hyphen": Case(text(b"a\nb\x0bc\x1fd\r"), {"rt": "a b cd"}),
     "2B: RT": Case(text(TEXT_32.encode(), kind="2B"), {"rt": TEXT_32}),
+    "2B: RT with an end": Case(text(b"A short one\r", kind="2B"), {"rt": "A short one"}),
     "3A: ODA": Case(
         [oda(0x4BD7, "11A")],
         {"oda:4BD7": {"group": "11A", "name": "RadioText Plus (RT+)"}},
@@ -267,10 +268,10 @@ CASES: Dict[str, Case] = {
     ),
     **{
         f"eRT of 128 bytes in {coding}": Case(
-            [oda(0x6552, "12A", number), *segments("12A", LONG.decode().encode(coding).ljust(128))],
-            {"ert": LONG.decode()},
+            [oda(0x6552, "12A", number), *segments("12A", whole.decode().encode(coding))],
+            {"ert": whole.decode()},
         )
-        for number, coding in enumerate(("utf-16-be", "utf-8"))
+        for number, (coding, whole) in enumerate((("utf-16-be", LONG), ("utf-8", 2 * LONG)))
     },
     "RT+ for eRT": Case(
         [
