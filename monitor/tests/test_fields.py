@@ -102,8 +102,8 @@ def test_which_groups_may_carry_an_application() -> None:
 
 def test_call_letters() -> None:
     """NRSC-4-B, annex D.7: the first and last of K and W, both kinds of zeros, and PI that have none."""
-    known, none = (0x1000, 0x54A7, 0x54A8, 0x994F, 0x7106, 0xA123, 0xAF13), (0x9950, 0x0FFF, 0xB001)
-    assert [*map(names.call_letters, known)] == "KAAA KZZZ WAAA WZZZ WKTI KABJ KBDO".split()
+    known, none = (0x1000, 0x54A7, 0x54A8, 0x994F, 0x7106, 0x12A4, 0xA123, 0xAF13), (0x9950, 0x0FFF, 0xB001)
+    assert [*map(names.call_letters, known)] == "KAAA KZZZ WAAA WZZZ WKTI KBAA KABJ KBDO".split()
     assert [*map(names.call_letters, none)] == 3 * [None]
 
 
