@@ -43,8 +43,17 @@ READ: Dict[str, tuple[tuple[int, int, int, int], int]] = {
     "tdc.channel": (group("5A", 31), 31),
     "tdc.data": (group("5A", 0, 0x1234, 0x5678), 0x12345678),
     "tdc.short": (group("5B", 0, 0, 0x5678), 0x5678),
-    "ih": (group("6A", 31, 0x1234, 0x5678), 31 << 32 | 0x12345678),
-    "ih.short": (group("6B", 31, 0, 0x5678), 31 << 16 | 0x5678),
+    # All that a group carries of its own, beside a programme type of ones.
+    **{
+        field: (group(kind, 31, 0x1234, 0x5678, pty=31), 31 << 32 | 0x12345678)
+        for field, kind in zip("ih tmc.message ews rtplus dab".split(), "6A 8A 9A 11A 12A".split())
+    },
+    "ih.short": (group("6B", 31, 0, 0x5678, pty=31), 31 << 16 | 0x5678),
+    "dab.service": (group("12A", 0x10), 1),
+    "dab.mode": (group("12A", 0x0C), 3),
+    "dab.frequency": (group("12A", 3, 0x1235, 0x5678), 3 << 16 | 0x1235),
+    "dab.low": (group("12A", 3, 0x1235, 0x5678), 0x1235),
+    "dab.ensemble": (group("12A", 3, 0x1235, 0x5679), 0x5679),
     "ct.day": (clock(0x1FFFF, 0, 0, 0), 0x1FFFF),
     "ct.hour": (clock(0, 31, 0, 0), 31),
     "ct.minute": (clock(0, 0, 63, 0), 63),
