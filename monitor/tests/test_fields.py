@@ -36,24 +36,32 @@ READ: Dict[str, tuple[tuple[int, int, int, int], int]] = {
     "la": (label(0, 0, linkage=1), 1),
     "label.variant": (label(7, 0), 7),
     "label.data": (label(0, 0xABC), 0xABC),
-    "pin": (label(0, 0, 0x1234), 0x1234),
+    "pin": (label(0, 0, 0x9234), 0x9234),
     "rt.kind": (group("2B", 0x10), 3),
     "rt.segment": (group("2A", 0x1F), 15),
     "oda.group": (group("3A", 22), 22),
     "tdc.channel": (group("5A", 31), 31),
-    "tdc.data": (group("5A", 0, 0x1234, 0x5678), 0x12345678),
-    "tdc.short": (group("5B", 0, 0, 0x5678), 0x5678),
+    "tdc.data": (group("5A", 0, 0x9234, 0x5678), 0x92345678),
+    "tdc.short": (group("5B", 0, 0, 0x9678), 0x9678),
     # All that a group carries of its own, beside a programme type of ones.
     **{
         field: (group(kind, 31, 0x1234, 0x5678, pty=31), 31 << 32 | 0x12345678)
         for field, kind in zip("ih tmc.message ews rtplus dab".split(), "6A 8A 9A 11A 12A".split())
     },
     "ih.short": (group("6B", 31, 0, 0x5678, pty=31), 31 << 16 | 0x5678),
+    "tmc.variant": (group("8A", 31), 31),
+    "ptyn.flag": (group("10A", 0x10), 1),
+    "ptyn.segment": (group("10A", 31), 1),
+    "eon.tp": (group("14A", 0x10), 1),
+    "eon.variant": (group("14A", 31), 15),
+    "eon.ta": (group("14B", 8), 1),
+    "lps.segment": (group("15A", 31), 7),
+    "ert.segment": (group("12A", 31), 31),
     "dab.service": (group("12A", 0x10), 1),
     "dab.mode": (group("12A", 0x0C), 3),
     "dab.frequency": (group("12A", 3, 0x1235, 0x5678), 3 << 16 | 0x1235),
-    "dab.low": (group("12A", 3, 0x1235, 0x5678), 0x1235),
-    "dab.ensemble": (group("12A", 3, 0x1235, 0x5679), 0x5679),
+    "dab.low": (group("12A", 3, 0x9235, 0x5678), 0x9235),
+    "dab.ensemble": (group("12A", 3, 0x1235, 0x9679), 0x9679),
     "ct.day": (clock(0x1FFFF, 0, 0, 0), 0x1FFFF),
     "ct.hour": (clock(0, 31, 0, 0), 31),
     "ct.minute": (clock(0, 0, 63, 0), 63),
@@ -73,9 +81,8 @@ READ: Dict[str, tuple[tuple[int, int, int, int], int]] = {
 @pytest.mark.parametrize("field", READ)
 def test_a_field_is_read_and_its_neighbours_are_not(field: str) -> None:
     words, value = READ[field]
-    assert FIELDS[field].of(words) == value
-    ones = (0xFFFF,) * 4
-    assert FIELDS[field].of(ones) == (1 << FIELDS[field].width) - 1
+    # The highest bit of each value is 1.
+    assert (FIELDS[field].of(words), FIELDS[field].width) == (value, value.bit_length())
     # Each bit of the field, and none but these, changes it.
     outside = [0xFFFF] * 4
     for block, shift, mask in FIELDS[field].parts:
