@@ -92,12 +92,12 @@ LOG := build/proofs.log
 edits:
 	tests/must_fail.py
 
-# `rt ci` gives a single proof all processors, and then it takes a fifth more CPU time. If there are only two, the wrong bodies use
-# the second better, so each proof gets one.
+# `rt ci` would give a single proof all processors, and then it takes a fifth more CPU time. The wrong bodies use the others better, so
+# each proof gets one.
 proofs: edits
 	@mkdir -p build
 	@echo $(RT) ci
-	@[ $$(nproc) -gt 2 ] || export RT_JOBS=$$(nproc); \
+	@export RT_JOBS=$${RT_JOBS:-$$(nproc)}; \
 	  { $(RT) ci; echo $$? > build/proofs.status; echo "proofs: ended"; } 2>&1 | tee $(LOG)
 	@exit $$(cat build/proofs.status)
 	tests/must_fail.py --tried $(LOG)

@@ -593,15 +593,18 @@ def test_wrong_bodies_without_a_toolchain(tmp_path: Path) -> None:
     assert status == 1 and "rds_code is not proved" in text
 
 
-# A prover that refuses one edit of a file, by a goal at its line.
+# A prover that refuses an edit by the goal that it names, and by a goal at its line.
 PROVER = r"""#!/bin/sh
 at=$(grep -n '(self.number + 1).min(4)' src/block_number.rt)
 echo only=2 checked
+echo "./proofs/block_number/BlockNumber/next/Answers.antt:9:1: error: \`returns\`: no proof was found"
 echo "note: src/block_number.rt:${at%%:*}:1: a goal is left (\`value\`)" """
+REFUSED_RIGHT = r"""
+echo "./proofs/block_number/BlockNumber/next_2/Answers.antt:9:1: error: \`returns\`: no proof was found" """
 
 
-def test_edit_that_changes_nothing(crates: Path) -> None:
-    """It is not refused by the goals of another edit of the same file. The gate tries an edit with `equal:` of that crate by the prover."""
+def tried_edits(crates: Path, prover: str) -> tuple[int | None, str]:
+    """The answer for two edits of a crate, of which the second changes nothing."""
     folder, same = crates / "crates" / "rds_code", "1..=4 => Some(BlockNumber { number }),"
     for edit in (folder / "wrong").iterdir():
         edit.unlink() if edit.name != "no_block_after_the_fourth.edit" else None
@@ -609,9 +612,19 @@ def test_edit_that_changes_nothing(crates: Path) -> None:
     (folder / "wrong" / "nothing_is_changed.edit").write_text(unchanged)
     answers = crates / "tests" / "wrong_bodies.answers"
     answers.write_text(re.sub("^rds_code.*\n", "", answers.read_text(), flags=re.M))
-    script(crates / "kit/bin/rattle", PROVER)
-    status, text = wrong_bodies(crates, "rds_code", rt=str(script(crates / "kit/bin/rt", "#!/bin/sh\n")))
-    assert status == 1 and "1 as they must be, 1 not: rds_code/nothing_is_changed" in text, text
+    script(crates / "kit/bin/rattle", prover)
+    return wrong_bodies(crates, "rds_code", rt=str(script(crates / "kit/bin/rt", "#!/bin/sh\n")))
+
+
+def test_edit_that_changes_nothing(crates: Path) -> None:
+    """It is not refused by the goals of another edit of the same file. The gate tries an edit with `equal:` of that crate by the prover."""
+    status, text = tried_edits(crates, PROVER)
+    assert status == 1 and "2 as they must be, 1 not: rds_code/nothing_is_changed" in text, text
+
+
+def test_right_body_that_is_refused(crates: Path) -> None:
+    status, text = tried_edits(crates, PROVER + REFUSED_RIGHT)
+    assert status == 1 and "no_block_after_the_fourth.edit, the right body: refused: returns - WRONG" in text
 
 
 def must_fail(top: Path, *words: object) -> Ran:

@@ -10,15 +10,18 @@ callees. A second edit of a function is made in a twin: a copy of the function t
 and proof.
 A wrong body is refused
 
-- by a goal that `search` proves of the right body and not of this one. For such a goal the right proof, which `rt ci` checks, has
-  no answer by hand;
-- otherwise by a line of those answers that the prover refuses, unless the line only names something that the edit removed. Answers
-  follow the form of a body, so an edit that keeps the meaning can be refused like this, too. So this counts only if
+- by a goal that a tactic closes of the right body and not of this one. For such a goal the right proof, which `rt ci` checks, has no
+  answer by hand. The edit names it after the tactic, in a line `search: GOAL` or `grind: GOAL`, and nothing else is tried. A line
+  `own: GOAL` names a goal that the right body does not have, and both tactics try it. Without such a line all goals are tried, and
+  those that refuse the edit are printed;
+- otherwise by a line of the answers by hand that the prover refuses, unless the line only names something that the edit removed.
+  Answers follow the form of a body, so an edit that keeps the meaning can be refused like this, too. So this counts only if
   tests/wrong_bodies.answers states the false claim of the edit, in a line 'CRATE/EDIT: CLAIM'. All other answers are left open.
 
 An edit with a line `equal: WHY` keeps the meaning: goals may not refuse it.
 
---right tries the right bodies in the same way, and none may be refused. --cut checks each crate as the edits of must-fail/ cut it,
+--right tries the right bodies in the same way, and none may be refused. Each run tries one right body of the crate, which the day
+chooses. --cut checks each crate as the edits of must-fail/ cut it,
 without their errors: it must be proved. With --beside, `rt ci` runs meanwhile and its output goes to LOG, ended by the line
 'proofs: ended'. Each crate waits until the crates below it are proved. Until all are proved, `rt ci` has half of the processors.
 """
@@ -81,6 +84,16 @@ ANY = """
 any : {A : Type 2} → A
 any = ?
 """
+# What `#[tactic(auto)]` tries, one after the other, by names that no answers have. As an answer one costs a fifth: after a goal that
+# `auto` leaves open, the check looks for advice.
+SEARCH, GRIND = "search by_rules", "grind (by_arith, by_steps)"
+TACTICS = {"search": SEARCH, "grind": GRIND, "own": f"first_of ({SEARCH}, {GRIND})"}
+IMPORTS = """use Rattle.std.proofs.Common.{arith as by_arith, rules as by_rules}
+use Rattle.std.proofs.lemmas.Grind.{common_steps as by_steps}
+"""
+CLOSURE = re.compile(r"(?:[(,=]|\bmove)\s*&?\|")
+# The attribute of a function with lemmas and definitions for its goals.
+ATTRIBUTE = re.compile(r" *#\[tactic\(auto((?:, \w+\([^()]*\))*)\)\]\n")
 
 
 @dataclass(eq=False)
@@ -88,16 +101,38 @@ class WrongBody:
     name: str
     edits: list  # (file, place, old, new)
     function: Function | None  # that is edited
+    tactic: str  # that closes this goal of the right body alone
+    goal: str
     is_equal: bool  # it keeps the meaning
     is_told: bool  # the table tells what is false of it
+    is_right: bool = False  # it is the right body, tried in the same way
     goals: Sequence = ()  # the goals that refuse it
     lines: Sequence = ()
 
     def is_refused(self):
         return bool(self.goals or self.is_told and self.lines)
 
+    def is_as_wanted(self):
+        """Whether a wrong body is refused, and one that keeps the meaning, or a right one, is not."""
+        return self.is_refused() != (self.is_equal or self.is_right)
+
+    def has_right_goal(self):
+        """Whether the tactic closes the goal of the right body."""
+        return self.tactic in ("search", "grind")
+
+    def made_right(self):
+        return replace(self, edits=[(path, at, old, old) for path, at, old, _ in self.edits], is_right=True)
+
     def report(self):
-        return f"refused: {', '.join(self.goals or self.lines)}" if self.is_refused() else "NOT REFUSED"
+        kind = ", the right body" if self.is_right else ", which keeps the meaning" if self.is_equal else ""
+        said = ", ".join(self.goals or self.lines)
+        return f"{self.name}{kind}: {f'refused: {said}' if said else 'not refused'}{'' if self.is_as_wanted() else ' - WRONG'}"
+
+
+def of_the_day(bodies):
+    """One of these, another one each day. A trait's function has no twin."""
+    named = [body for body in bodies if body.has_right_goal() and not body.function.is_of_trait]
+    return [named[int(time.time() // 86400) % len(named)].made_right()] if named else []
 
 
 def told_of():
@@ -125,7 +160,8 @@ def wrong_body(crate, file, functions, told=()):
     """Reads an edit, and finds its function."""
     lines = [it.partition(": ")[::2] for it in read(f"{CRATES}/{crate}/wrong/{file}").splitlines()]
     name, is_equal = f"{crate}/{file}", any(key == "equal" for key, _ in lines)
-    body = WrongBody(name, [], None, is_equal, name.removesuffix(".edit") in told)
+    tactic, goal = next((line for line in lines if line[0] in TACTICS), ("", ""))
+    body = WrongBody(name, [], None, tactic, goal, is_equal, name.removesuffix(".edit") in told)
     path, old = "", ""
     for key, said in lines:
         path = f"{crate}/{said}" if key == "file" else path
@@ -190,13 +226,49 @@ def put_proof(folder, f, twin):
         write(path, said + NO_GOAL)
 
 
-def leave_answers_open(folder, f):
-    """Leaves the answers by hand of a function open, so that the check reads no lemma for them."""
+def answer_by(tactic, goal, right):
+    """The imports and the text of an answer to a goal of a function by what its `auto` tries."""
+    text = read(f"{CRATES}/{right.file}")[right.place[0] : right.place[1]]
+    lists = dict(re.findall(r"(\w+)\((.*?)\)", said[1] if (said := ATTRIBUTE.search(text)) else ""))
+    imports, names = IMPORTS, {"using": [], "unfolding": []}
+    for key in lists:
+        for path in re.findall(r"[\w:]+", lists[key]):
+            module, _, name = path.replace("crate::", f"{right.crate}::").replace("::", ".").rpartition(".")
+            imports += f"use Rattle.{module}.{{{name}}}\n"
+            names[key].append(name)
+    words = TACTICS[tactic]
+    if tactic != "search" and names["using"]:
+        words = f"first_of ({words}, grind (by_arith, {', '.join(names['using'])}))"
+    unfolding = f"unfolding {' '.join(names['unfolding'])}\n" if names["unfolding"] else ""
+    return imports, f"\npub {goal} : goal.{goal}\n{unfolding}{goal} = {words}\n"
+
+
+def put_answers(folder, body, right):
+    """Has the tactic try the goal that refuses a wrong body, and leaves the answers by hand open, so that the check reads no lemma for
+    them."""
+    f = body.function
     path = f"{f.proof(folder)}/Answers.antt"
-    if os.path.isfile(path):
-        goals = re.findall(r"^pub (?!no-such-goal)(\S+) : goal\.", read(path), re.M)
-        said = "".join(f"\npub {goal} : goal.{goal}\n{goal} = any\n" for goal in goals)
-        write(path, f"use Rattle.{f.crate}.proofs.{f.path}.Goals as goal\n{ANY}{said}{NO_GOAL}")
+    text = read(path) if os.path.isfile(path) else ""
+    by_hand = re.findall(r"^pub (?!no-such-goal)(\S+) : goal\.", text, re.M)
+    imports, said = answer_by(body.tactic, body.goal, right) if body.goal else ("", "")
+    said += "".join(f"\npub {goal} : goal.{goal}\n{goal} = any\n" for goal in by_hand if goal != body.goal)
+    if said:
+        own = f"use Rattle.{f.crate}.proofs.{f.path}.Goals as goal\n"
+        write(path, f"{own}{imports}{ANY}{said}{NO_GOAL}")
+
+
+def is_tried_alone(body):
+    """Whether one goal is tried, or the answers by hand are. The check would write draft answers for open goals of closures."""
+    return bool(body.goal or body.is_told) and not CLOSURE.search(body.function.body)
+
+
+def leave_goals_open(folder, crate, paths):
+    """Has no tactic try the goals of these functions that have no answer."""
+    functions = [f for f in functions_of(f"{folder}/{crate}") if f.path in paths]
+    for f in sorted(functions, key=lambda f: -f.place[0]):
+        text, (start, end) = read(f"{folder}/{f.file}"), f.place
+        own = ATTRIBUTE.sub("", text[start:end], count=1)
+        write(f"{folder}/{f.file}", f"{text[:start]}#[tactic(none)]\n{own}{text[end:]}")
 
 
 def put_loops(folder, crate, edited):
@@ -235,13 +307,14 @@ def prepare(folder, crate, bodies):
             put_twin(folder, body, count[f])
         else:
             put_proof(folder, f, f)
-        if not body.is_told:
-            leave_answers_open(folder, body.function)
+        if body.goal or not body.is_told:
+            put_answers(folder, body, f)
     edits = [it for body in bodies for it in body.edits]
     for path in {it[0] for it in edits}:
         write(f"{folder}/{path}", edited(read(f"{CRATES}/{path}"), [it for it in edits if it[0] == path]))
     put_loops(folder, crate, {body.function.path for body in bodies})
     drop_main(folder, crate)
+    leave_goals_open(folder, crate, {body.function.path for body in bodies if is_tried_alone(body)})
     places = {f.path: f.place for f in functions_of(f"{folder}/{crate}")}
     for body in bodies:
         body.function = replace(body.function, place=places[body.function.path])
@@ -253,20 +326,17 @@ def refusal(folder, body, said):
     first, last = (read(f"{folder}/{f.file}").count("\n", 0, at) + 1 for at in f.place)
     answers = f"{f.proof('.').partition(f'{f.crate}/')[2]}/Answers.antt"
     file = f"{folder}/{f.crate}/{answers}"
-    by_hand = re.findall(r"^pub (\S+) : goal\.", read(file), re.M) if os.path.isfile(file) else []
+    answered = re.findall(r"^pub (\S+) : goal\.", read(file), re.M) if os.path.isfile(file) else []
     left_open = rf"^note: {f.file.partition('/')[2]}:(\d+):\d+: .*\(`([^`]+)`\)(?:;|$)"
     found = [goal for line, goal in re.findall(left_open, said, re.M) if first <= int(line) <= last]
-    goals = dict.fromkeys(goal for goal in found if goal not in by_hand)
+    goals = dict.fromkeys(goal for goal in found if goal not in answered and not is_tried_alone(body))
     errors = re.findall(rf"^\./{answers}:(\d+):\d+: error: (.*)", said, re.M)
-    lines = dict.fromkeys(f"line {at} of {answers}" for at, why in errors if not re.search(GONE, why))
-    return list(goals), list(lines)
-
-
-def is_as_wanted(body, are_right):
-    """Whether a wrong body is refused, and one that keeps the meaning, or a right one, is not."""
-    if are_right:
-        return not body.goals and not body.lines
-    return body.is_refused() != body.is_equal
+    # The right body has to have the goal.
+    errors = [(at, why) for at, why in errors if body.is_right and body.goal or not re.search(GONE, why)]
+    if body.goal:
+        goals |= {body.goal: None} if any(why.startswith(f"`{body.goal}`: ") for _, why in errors) else {}
+        errors = []
+    return list(goals), list(dict.fromkeys(f"line {at} of {answers}" for at, _ in errors))
 
 
 def runs_of(crate):
@@ -293,8 +363,8 @@ def try_some(room, crate, files, where, told, are_right):
     shutil.rmtree(f"{room}/{crate}", ignore_errors=True)
     functions = copied(room, [crate], [crate])
     bodies = [wrong_body(crate, it, functions, told) for it in files]
-    for body in bodies if are_right else []:
-        body.edits = [(path, at, old, old) for path, at, old, _ in body.edits]
+    right = [body.made_right() for body in bodies if body.tactic != "own"]
+    bodies = right if are_right else bodies + of_the_day(bodies)
     prepare(room, crate, bodies)
     ran = subprocess.run(
         words(room, crate, {it.function.path.replace(".", "::") for it in bodies}, where),
@@ -308,9 +378,8 @@ def try_some(room, crate, files, where, told, are_right):
         sys.exit(f"{crate}: the run came to no end:\n{ran.stdout[-3000:]}")
     for body in bodies:
         body.goals, body.lines = refusal(room, body, ran.stdout)
-        kind = ", which keeps the meaning" if body.is_equal else ""
-        print(f"{body.name}{kind}: {body.report()}", flush=True)
-    if not all(is_as_wanted(it, are_right) for it in bodies):
+        print(body.report(), flush=True)
+    if not all(body.is_as_wanted() for body in bodies):
         print(f"{crate}: the end of that run's output:\n{ran.stdout[-3000:]}", flush=True)
     return bodies
 
@@ -453,7 +522,7 @@ def main(names, are_right, log):
     if unknown := [it for it in names if it not in crates]:
         sys.exit(f"there are no wrong bodies of {', '.join(unknown)}")
     bodies = tried([it for it in crates if it in (names or crates)], told, are_right, log)
-    failed = [it.name for it in bodies if not is_as_wanted(it, are_right)]
+    failed = [body.name for body in bodies if not body.is_as_wanted()]
     kind = "right" if are_right else "wrong"
     print(
         f"{kind} bodies: {len(bodies) - len(failed)} as they must be, {len(failed)} not: {' '.join(failed)}"
