@@ -8,6 +8,7 @@ import io
 import itertools
 import lzma
 import sys
+import zlib
 from collections import defaultdict
 from typing import Any, List, Optional
 from unittest import mock
@@ -499,8 +500,15 @@ def test_compressed_inputs_are_read(name: str, station: bytes, station_listing: 
         assert said("errors", data=compress(data)) == expected
         # Several streams in a row are one, as `cat` makes them.
         assert said("errors", data=compress(data[:999]) + compress(data[999:])) == expected
-        for cut, fault in ((compress(data)[:-9], "ends early"), (compress(data)[:99] + bytes(999), "")):
-            done = run("errors", data=cut)
+        # The streams of a file are of one form.
+        mixed = compress(data[:999]) + zlib.compress(data[999:])
+        faults = {
+            compress(data)[:-9]: "ends early",
+            compress(data)[:99] + bytes(999): "",
+            mixed: "is damaged",
+        }
+        for wrong, fault in faults.items():
+            done = run("errors", data=wrong)
             assert done.status == 1 and f"the {name} data" in done.err and fault in done.err
 
 

@@ -34,7 +34,7 @@ class Programme:
 
     def __init__(self, pi: int, teller: Teller, rbds: bool, everything: bool, data: bool) -> None:
         self.pi, self._teller = pi, teller
-        plain = {*features.PLAIN, networks.Frequencies, *texts.PLAIN}
+        plain = (*features.PLAIN, networks.Frequencies, *texts.PLAIN)
         takers: List[Taker] = [taker(teller) for taker in plain]
         takers += [features.Flags(teller, rbds), features.SlowLabels(teller, pi)]
         takers += [features.Features(teller, data), networks.OtherNetworks(teller, rbds)]

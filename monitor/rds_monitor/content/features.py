@@ -209,4 +209,4 @@ class DabLink(Taker):
         self._tell(f"dab:{16 * frequency / 1000:.3f}", found, shown)
 
 
-PLAIN = {ClockTime, OpenData, TrafficMessages, DabLink}  # those that need only the teller
+PLAIN = (ClockTime, OpenData, TrafficMessages, DabLink)  # those that need only the teller
