@@ -21,7 +21,7 @@ from made import output as rds_monitor
 from modulator import Array, iq, mpx, stored, wav, words
 
 from rds_monitor.rows.items import Fault
-from rds_monitor.signal import form
+from rds_monitor.signal import form, rates
 from rds_monitor.signal.pack import READERS, BitWriter, Conversion, bits_of, packed_of
 from rds_monitor.signal.rates import BLOCK, _by_pilot, likely_rate
 from rds_monitor.signal.samples import FORMS as FORMS_OF_SAMPLES, Flac, numbers
@@ -251,6 +251,14 @@ def test_rates_by_the_strongest_lines(apart: int) -> None:
 
 def test_two_blocks_of_samples_tell_the_rate(signal: Array) -> None:
     assert [likely_rate(signal[:size]) for size in (65535, 65536)] == [None, 192000]
+
+
+@pytest.mark.parametrize("share, rate", [(0.5, None), (0.51, 192000)])
+def test_a_rate_has_rds_for_more_than_half_of_the_time(
+    share: float, rate: Any, signal: Array, monkeypatch: pytest.MonkeyPatch
+) -> None:
+    monkeypatch.setattr(rates, "locked", lambda samples, rate, offset: (share, None))
+    assert likely_rate(signal[:65536]) == rate
 
 
 def test_mpx_in_the_second_channel_and_in_flac(signal: Array, tmp_path: Path) -> None:

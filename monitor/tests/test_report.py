@@ -414,6 +414,20 @@ def test_outages_that_meet_are_one(stored: List[Tuple[int, int]], told: List[Any
     assert line.outages == told
 
 
+def test_stretches_of_a_recording_are_one_session() -> None:
+    """Those of two recordings stay apart, and those of one that follow within a tenth of a second are joined to the last."""
+    line, station = TimeLine(), StoredStation.__new__(StoredStation)
+    rows = [
+        (1, [0.0, 9.0, 9.0, 90, 80]),
+        (1, [20.0, 30.0, 10.0, 100, 90]),
+        (1, [30.0625, 31.0, 0.9375, 9, 7]),
+    ]
+    for recording, row in [*rows, (2, [31.0, 32.0, 1.0, 10, 10])]:
+        station._add_session(line, SimpleNamespace(recording=recording), row)  # type: ignore[arg-type]
+        station._run = recording
+    assert line.sessions == [rows[0][1], [20.0, 31.0, 10.9375, 109, 97], [31.0, 32.0, 1.0, 10, 10]]
+
+
 def test_sessions_of_unknown_start_follow_on_one_another(tmp_path: Path) -> None:
     """Each of 3 s, from another position on."""
     path = tmp_path / "it.db"

@@ -110,6 +110,7 @@ def test_a_recording_and_its_listing_are_the_same_rows(rules: Rules, options: st
     source = open_source(str(path), Reading(rules=rules))
     assert source.length == len(SYMBOLS) - 1
     assert written(source) == rds("list", "--soft", *options.split(), data=SYMBOLS)
+    assert source.length == len(SYMBOLS) - 1
 
 
 @pytest.mark.parametrize("margin", [1, 127])
