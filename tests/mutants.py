@@ -14,6 +14,7 @@ from __future__ import annotations
 
 import argparse
 import ast
+import contextlib
 import functools
 import hashlib
 import itertools
@@ -295,8 +296,11 @@ def failing(top: Path, tests: list[str], passed_over: list[str], most: str = "1"
         try:
             text = ran.communicate(timeout=SECONDS)[0]
         except subprocess.TimeoutExpired:
-            os.killpg(ran.pid, signal.SIGKILL)
             return ["no end"]
+        finally:
+            # An edited program may go on after its test.
+            with contextlib.suppress(ProcessLookupError):
+                os.killpg(ran.pid, signal.SIGKILL)
     found = [
         # a parameter with a blank is left out
         name if " " not in name else name.partition("[")[0]
