@@ -527,6 +527,15 @@ def test_a_disk_that_hangs(tmp_path: Path, monkeypatch: pytest.MonkeyPatch) -> N
     assert alarms(net, "") == [("disk", 21.0, 30.5)]
 
 
+@pytest.mark.parametrize("speed, seconds", [(20, 3), (60, 2)])
+def test_pages_of_a_fast_clock(tmp_path: Path, speed: float, seconds: int) -> None:
+    """A browser loads them anew each minute of it, but no more often than each two seconds."""
+    net = network(tmp_path, Air(ALPHA, START, 100), speed=speed)
+    net.run(2)
+    net.end()
+    assert f'http-equiv="refresh" content="{seconds}"' in (tmp_path / "pages" / "index.html").read_text()
+
+
 # ---- the table
 
 
