@@ -10,6 +10,7 @@ import lzma
 import sys
 import zlib
 from collections import defaultdict
+from types import SimpleNamespace
 from typing import Any, List, Optional
 from unittest import mock
 
@@ -480,6 +481,14 @@ def test_a_long_listing_is_read_in_chunks(station: bytes) -> None:
     assert all((many[f"kind{number}"] == VALID).all() for number in BLOCKS)
     sizes = [len(chunk) for chunk in source_of(listing([acquired_row(129, 1), many])).chunks()]
     assert max(sizes) <= 65536 and sum(sizes) == 40001 and len(sizes) > 2
+
+
+def test_a_part_in_chunks_begins_with_the_first() -> None:
+    """And it ends with the last one. Chunks without rows count for nothing."""
+    chunks = [joined([]), group_row(129, WORDS), joined([]), group_row(233, WORDS)]
+    source: Any = SimpleNamespace(chunks=lambda: chunks, is_part=True, length=None)
+    part = extent.Extent(source)
+    assert [len(rows) for rows in part.chunks()] == [1, 1] and (part.begin, part.end) == (129, 337)
 
 
 # ---- compressed inputs
