@@ -25,7 +25,7 @@ from rds_monitor.rows.items import Fault, Misuse
 from rds_monitor.signal import samples
 from rds_monitor.signal.demod import judge_options, options_demod
 from rds_monitor.signal.filters import Bands, Passband, at_least, fast_size
-from rds_monitor.signal.found import is_inside, spectrum_of
+from rds_monitor.signal.found import is_inside, spectrum_of, weights_of
 from rds_monitor.signal.jumps import Jumps
 from rds_monitor.signal.receiver import Quality, Strength
 from rds_monitor.signal.samples import checked
@@ -258,6 +258,11 @@ def test_options_of_demod(words: str, fault: str) -> None:
         return
     with pytest.raises(Misuse, match=f"^{fault}"):
         judge_options(given)
+
+
+def test_weights_of_bins() -> None:
+    """As many on both sides of the frequency."""
+    assert weights_of(2) == pytest.approx([0.25, 0.75, 1, 0.75, 0.25])
 
 
 def test_the_power_of_a_spectrum() -> None:

@@ -45,12 +45,17 @@ def is_inside(offset: float, rate: int) -> bool:
     return abs(offset) + HALF_CHANNEL_HZ <= rate / 2
 
 
+def weights_of(reach: int) -> Reals:
+    """The weight of each bin up to `reach` bins from a frequency: a Hann window, whose zeros are the bins after them."""
+    return numpy.hanning(2 * reach + 3)[1:-1]
+
+
 def candidates(spectrum: Spectrum, centre: float) -> List[float]:
     """The offsets of possible stations: those of the raster with more power than the next ones on both sides."""
     step = float(spectrum.offsets[1] - spectrum.offsets[0])
     rate = round(step * spectrum.offsets.size)
     reach = round(WIDTH_HZ / step)
-    weights = numpy.hanning(2 * reach + 3)[1:-1]
+    weights = weights_of(reach)
     sums = numpy.convolve(spectrum.power, weights / weights.sum(), "same")
     raster = numpy.arange(numpy.ceil((centre - rate / 2) / RASTER_HZ), (centre + rate / 2) / RASTER_HZ + 1)
     offsets = raster * RASTER_HZ - centre
