@@ -20,10 +20,10 @@ A wrong body is refused
 
 An edit with a line `equal: WHY` keeps the meaning: goals may not refuse it.
 
---right tries the right bodies in the same way, and none may be refused. Each run tries one right body of the crate, which the day
-chooses. --cut checks each crate as the edits of must-fail/ cut it,
-without their errors: it must be proved. With --beside, `rt ci` runs meanwhile and its output goes to LOG, ended by the line
-'proofs: ended'. Each crate waits until the crates below it are proved. Until all are proved, `rt ci` has half of the processors.
+--right tries the right bodies in the same way, and none may be refused. Without it a run tries one right body of the crate, another one
+each day. --cut checks each crate as the edits of must-fail/ cut it, without their errors: it must be proved. With --beside, `rt ci` runs
+meanwhile and its output goes to LOG, ended by the line 'proofs: ended'. Each crate waits until the crates below it are proved. Until all
+are proved, `rt ci` has half of the processors.
 """
 
 import argparse
@@ -84,13 +84,14 @@ ANY = """
 any : {A : Type 2} → A
 any = ?
 """
-# What `#[tactic(auto)]` tries, one after the other, by names that no answers have. As an answer one costs a fifth: after a goal that
-# `auto` leaves open, the check looks for advice.
+# The tactics of `#[tactic(auto)]`, by names that no answers have. In an answer they take a fifth of its time, since after a goal that
+# `auto` leaves open the check looks for advice.
 SEARCH, GRIND = "search by_rules", "grind (by_arith, by_steps)"
 TACTICS = {"search": SEARCH, "grind": GRIND, "own": f"first_of ({SEARCH}, {GRIND})"}
 IMPORTS = """use Rattle.std.proofs.Common.{arith as by_arith, rules as by_rules}
 use Rattle.std.proofs.lemmas.Grind.{common_steps as by_steps}
 """
+# The begin of a closure in a body.
 CLOSURE = re.compile(r"(?:[(,=]|\bmove)\s*&?\|")
 # The attribute of a function with lemmas and definitions for its goals.
 ATTRIBUTE = re.compile(r" *#\[tactic\(auto((?:, \w+\([^()]*\))*)\)\]\n")
