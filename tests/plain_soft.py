@@ -106,8 +106,9 @@ def weighed_any(remainder: int, confidences: np.ndarray) -> tuple[np.ndarray, np
 
 
 def spelled(window: Window, any_number: bool) -> str:
-    """The block of a window: by flips of up to six symbols, or of any number."""
-    return str(reading(window, any_number)[0])
+    """The block of a window, by flips of up to six symbols or of any number, in the form of `rds_bench --soft`."""
+    block = reading(window, any_number)[0]
+    return f"{plain.NAMES[block.offset] if block.offset else 'lost'} {block.word} {block.burst}"
 
 
 def reading(window: Window, any_number: bool) -> tuple[plain.Read, int]:

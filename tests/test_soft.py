@@ -19,7 +19,7 @@ def test_flips_of_up_to_six(rds_bench: str, seed: int) -> None:
     windows = random_windows(numbers, SEVEN_ARE_TOO_MANY, 10_000)
     found = blocks(rds_bench, windows)
     assert found == [spelled(window, False) for window in windows]
-    assert {block[:1] for block in found if "~" in block} == {*"ABCD"} and "lost" in found
+    assert {block[:1] for block in found if block[-2:] != " 0"} == {*"ABCD"} and "lost 0 0" in found
 
 
 @pytest.mark.parametrize("least", [0, 1, 12])
@@ -46,6 +46,6 @@ def test_tie_and_margin(rds_bench: str) -> None:
     sizes[[6, 15, 25]] = 31, 8, 8
     symbols = np.where(signs, sizes, -sizes).astype(np.int8)
     assert blocks(rds_bench, [Window(4, 0, 31, symbols), Window(4, 0, 32, symbols)]) == [
-        "D:0000~0000C00",
-        "lost",
+        f"D 0 {0xC00}",
+        "lost 0 0",
     ]

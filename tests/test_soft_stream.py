@@ -15,7 +15,7 @@ from typing import Any, Callable, Iterator, NamedTuple
 import numpy as np
 import plain
 import pytest
-from plain_soft import Window, spelled
+from plain_soft import Window, reading
 from running import LIMIT, TOP, said, wrote
 
 # Symbols of at least this size: seven of them weigh more than the top and the greatest margin here.
@@ -71,12 +71,8 @@ def read_again(
         return block
     if any(begin < first + plain.BLOCK and first < end for begin, end in stream.gaps):
         return block
-    text = spelled(Window(number, wanted, stream.margin, stream.symbols[first : first + 27]), False)
-    if text == "lost":
-        return block
-    name, _, rest = text.partition(":")
-    word, _, mask = rest.partition("~")
-    return plain.Read(plain.NAMES.index(name), int(mask or "0", 16), int(word, 16))
+    again = reading(Window(number, wanted, stream.margin, stream.symbols[first : first + 27]), False)[0]
+    return again if again.offset else block
 
 
 def group_again(group: plain.Item, stream: Stream) -> plain.Item:

@@ -16,7 +16,8 @@ A wrong body is refused
   those that refuse the edit are printed;
 - otherwise by a line of the answers by hand that the prover refuses, unless the line only names something that the edit removed.
   Answers follow the form of a body, so an edit that keeps the meaning can be refused like this, too. So this counts only if
-  tests/wrong_bodies.answers states the false claim of the edit, in a line 'CRATE/EDIT: CLAIM'. All other answers are left open.
+  tests/wrong_bodies.answers states the false claim of the edit, in a line 'CRATE/EDIT GOAL: CLAIM'. The answer to this goal is read,
+  and all others are left open. A line without GOAL has all answers read.
 
 An edit with a line `equal: WHY` keeps the meaning: goals may not refuse it.
 
@@ -81,8 +82,8 @@ no-such-goal c = tt
 """
 # A value of any type, for the answers by hand that are left open.
 ANY = """
-any : {A : Type 2} → A
-any = ?
+left-open : {A : Type 2} → A
+left-open = ?
 """
 # The tactics of `#[tactic(auto)]`, by names that no answers have. In an answer they take a fifth of its time, since after a goal that
 # `auto` leaves open the check looks for advice.
@@ -106,6 +107,7 @@ class WrongBody:
     goal: str
     is_equal: bool  # it keeps the meaning
     is_told: bool  # the table tells what is false of it
+    answer: str  # to the goal that the table names
     is_right: bool = False  # it is the right body, tried in the same way
     goals: Sequence = ()  # the goals that refuse it
     lines: Sequence = ()
@@ -137,7 +139,7 @@ def of_the_day(bodies):
 
 
 def told_of():
-    """The edits in the table with their false claims. Each has one line, and its file has to exist."""
+    """The edits in the table, with the goal of the answer that refuses each. Each has one line, and its file has to exist."""
     text = read(f"{TOP}/{TOLD}")
     rows = [it for it in text.splitlines() if not it.startswith("#")]
     if not rows:
@@ -146,23 +148,25 @@ def told_of():
         sys.exit(f"{TOLD}: the last line is cut off")
     told = {}
     for row in rows:
-        edit, _, what = row.partition(": ")
-        if not what:
+        name, _, claim = row.partition(": ")
+        edit, _, goal = name.partition(" ")
+        if not claim:
             sys.exit(f"{TOLD}: the line says nothing of an edit: {row}")
         if edit in told:
             sys.exit(f"{TOLD}: two lines of {edit}")
-        told[edit] = what
+        told[edit] = goal
     if gone := [it for it in told if not os.path.isfile(f"{CRATES}/{it.replace('/', '/wrong/', 1)}.edit")]:
         sys.exit(f"{TOLD} tells of edits that are not there: {', '.join(gone)}")
     return told
 
 
-def wrong_body(crate, file, functions, told=()):
+def wrong_body(crate, file, functions, told={}):
     """Reads an edit, and finds its function."""
     lines = [it.partition(": ")[::2] for it in read(f"{CRATES}/{crate}/wrong/{file}").splitlines()]
     name, is_equal = f"{crate}/{file}", any(key == "equal" for key, _ in lines)
     tactic, goal = next((line for line in lines if line[0] in TACTICS), ("", ""))
-    body = WrongBody(name, [], None, tactic, goal, is_equal, name.removesuffix(".edit") in told)
+    edit = name.removesuffix(".edit")
+    body = WrongBody(name, [], None, tactic, goal, is_equal, edit in told, told.get(edit, ""))
     path, old = "", ""
     for key, said in lines:
         path = f"{crate}/{said}" if key == "file" else path
@@ -245,17 +249,49 @@ def answer_by(tactic, goal, right):
 
 
 def put_answers(folder, body, right):
-    """Has the tactic try the goal that refuses a wrong body, and leaves the answers by hand open, so that the check reads no lemma for
-    them."""
+    """Has the check read what refuses a wrong body, the tactic or an answer by hand, and leaves the other answers by hand open, so that
+    it reads no lemma for them."""
     f = body.function
     path = f"{f.proof(folder)}/Answers.antt"
     text = read(path) if os.path.isfile(path) else ""
+    if body.answer:
+        return write(path, with_needed_imports(with_one_answer(text, body.answer)))
     by_hand = re.findall(r"^pub (?!no-such-goal)(\S+) : goal\.", text, re.M)
     imports, said = answer_by(body.tactic, body.goal, right) if body.goal else ("", "")
-    said += "".join(f"\npub {goal} : goal.{goal}\n{goal} = any\n" for goal in by_hand if goal != body.goal)
+    said += "".join(
+        f"\npub {goal} : goal.{goal}\n{goal} = left-open\n" for goal in by_hand if goal != body.goal
+    )
     if said:
         own = f"use Rattle.{f.crate}.proofs.{f.path}.Goals as goal\n"
         write(path, f"{own}{imports}{ANY}{said}{NO_GOAL}")
+
+
+def with_one_answer(text, kept):
+    """The answers with all but this one left open."""
+    lines, goal = [], None
+    for line in text.splitlines(keepends=True):
+        if found := re.match(r"pub (\S+) : goal\.", line):
+            goal = found[1] if found[1] not in (kept, "no-such-goal") else None
+            lines.append(f"{line}{goal} = left-open\n\n" if goal else line)
+        elif not goal or not line.startswith((f"{goal} ", "unfolding ", " ", "\n", ")", "]", "}")):
+            goal = None
+            lines.append(line)
+    if f"pub {kept} : goal." not in text:
+        sys.exit(f"{TOLD} names {kept}, to which no answer is given")
+    return "".join(lines)
+
+
+def with_needed_imports(text):
+    """The answers without the names that they do not use, so that the check does not read their lemmas."""
+    imports = re.findall(r"^use .*\n", text, re.M)
+    rest = re.sub(r"^use .*\n", "", text, flags=re.M)
+    kept = ""
+    for line in imports:
+        head, brace, names = line.rstrip("}\n").partition("{")
+        visible = {name: re.split(r" as |\.", name)[-1] for name in names.split(", ")}
+        used = [name for name in visible if any(part in rest for part in visible[name].split("◌") if part)]
+        kept += f"{head}{{{', '.join(used)}}}\n" if used and brace else "" if brace else line
+    return f"{kept}{ANY}{rest}"
 
 
 def is_tried_alone(body):
@@ -308,7 +344,7 @@ def prepare(folder, crate, bodies):
             put_twin(folder, body, count[f])
         else:
             put_proof(folder, f, f)
-        if body.goal or not body.is_told:
+        if body.goal or body.answer or not body.is_told:
             put_answers(folder, body, f)
     edits = [it for body in bodies for it in body.edits]
     for path in {it[0] for it in edits}:
@@ -334,8 +370,8 @@ def refusal(folder, body, said):
     errors = re.findall(rf"^\./{answers}:(\d+):\d+: error: (.*)", said, re.M)
     # The right body has to have the goal.
     errors = [(at, why) for at, why in errors if body.is_right and body.goal or not re.search(GONE, why)]
-    if body.goal:
-        goals |= {body.goal: None} if any(why.startswith(f"`{body.goal}`: ") for _, why in errors) else {}
+    if tried := body.goal or body.answer:
+        goals |= {tried: None} if any(why.startswith(f"`{tried}`: ") for _, why in errors) else {}
         errors = []
     return list(goals), list(dict.fromkeys(f"line {at} of {answers}" for at, _ in errors))
 

@@ -236,7 +236,17 @@ def ran(command: str) -> List[str]:
     return shown(shlex.split(command))
 
 
-@pytest.mark.parametrize("name", sorted(path.name for path in TEXTS.iterdir()))
+# The watch takes 17 processor seconds, so one worker runs all tests of it.
+OF_WATCH = pytest.mark.xdist_group("watched")
+
+
+@pytest.mark.parametrize(
+    "name",
+    [
+        pytest.param(path.name, marks=OF_WATCH if path.name.startswith("watch") else ())
+        for path in sorted(TEXTS.iterdir())
+    ],
+)
 def test_all_that_is_said(name: str, folder: Path, request: pytest.FixtureRequest) -> None:
     if name.startswith("watch"):
         request.getfixturevalue("watched")

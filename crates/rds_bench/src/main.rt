@@ -1,13 +1,9 @@
-//! `rds_bench`: the time of one form of a task over a recording.
-//!
-//! `tests/test_growth.py` makes the recordings and compares the times.
+//! `rds_bench`: the time of one form of a task over a recording, for tests/test_growth.py, and blocks of symbols.
 #![tactic(auto)]
 
-mod calls;
 mod forms;
 mod soft;
 mod timing;
-mod two_guesses;
 
 use anyhow::Result;
 use forms::Form;
@@ -15,8 +11,7 @@ use std::env;
 
 const USAGE: &str =
     "usage: rds_bench FORM [LOSS]  prints the nanoseconds of a form over the packed bits on standard input, and its count
-       rds_bench --calls      calls that a crew is made of, each by itself, and once more if it is refused
-       rds_bench --soft       the blocks of windows of 27 symbols on standard input
+       rds_bench --soft       blocks of windows of 27 symbols on standard input: offset, information word, error mask
 Forms that find valid windows: scan, windows, places, divided. Forms that find valid blocks: report, guess, items.
 LOSS: how many bad blocks in a row lose sync [default: 10]
 ";
@@ -31,10 +26,8 @@ fn main(rt: HostRuntime) -> Result<()> {
 
 /// Does as these words ask.
 fn run(rt: &HostRuntime, words: &[String]) -> Result<()> {
-    match words.first().map(String::as_str) {
-        Some("--calls") => return calls::show(rt),
-        Some("--soft") => return soft::show(rt),
-        _ => {}
+    if words.first().map(String::as_str) == Some("--soft") {
+        return soft::show(rt);
     }
     match measurement(words) {
         Some((form, loss)) => timing::show(rt, form, loss),

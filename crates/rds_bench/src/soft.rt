@@ -8,29 +8,31 @@ use std::io::Read;
 /// The bytes of a window: its block's number, the offsets wanted, the margin, and 27 symbols.
 const WINDOW: usize = 30;
 
-/// Prints each window as a listing spells its block.
+/// Prints of each window the offset by which it is read, or `lost`, the information word and the error mask.
 pub fn show(rt: &HostRuntime) -> Result<()> {
     let mut search = Search::new(rt.alloc())?;
     let mut bytes = Vec::new(rt.alloc());
     rt.stdin().read_to_end(&mut bytes)?;
     for window in bytes.chunks_exact(WINDOW) {
-        match read(&mut search, window) {
-            None => println!(rt; "none")?,
-            Some(SoftReading::Lost) => println!(rt; "lost")?,
-            Some(SoftReading::Valid { offset, info }) => println!(rt;
-                "{}:{info:04X}",
-                offset.name()
-            )?,
-            Some(
-                SoftReading::Corrected {
-                    offset,
-                    info,
-                    flips,
-                },
-            ) => { println!(rt; "{}:{info:04X}~{:07X}", offset.name(), mask_of(flips))? }
-        }
+        let (offset, info, mask) = told(read(&mut search, window));
+        println!(rt; "{offset} {info} {mask}")?;
     }
     Ok(())
+}
+
+fn told(reading: Option<SoftReading>) -> (&'static str, u16, u32) {
+    match reading {
+        None => ("none", 0, 0),
+        Some(SoftReading::Lost) => ("lost", 0, 0),
+        Some(SoftReading::Valid { offset, info }) => (offset.name(), info, 0),
+        Some(
+            SoftReading::Corrected {
+                offset,
+                info,
+                flips,
+            },
+        ) => (offset.name(), info, mask_of(flips)),
+    }
 }
 
 /// A window, read as a block; none if its number or its margin is out of range.

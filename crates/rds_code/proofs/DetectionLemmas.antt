@@ -7,22 +7,14 @@ use Rattle.rds_code.proofs.{ReadingLemmas.one_fits, ReadingLemmas.corrections_on
 shows : ℕ → ℕ → ℕ → Bool
 shows r m t = cond (ltb (m * 2 ^ t) (2 ^ 26)) (cond (eqb (rem (m * 2 ^ t)) r) false true) true
 
-all_pairs_show : all_below (λ s. all_below (shows 0 (1 + 2 * 2 ^ s)) 26) 26 ≡ true
-unfolding shows rem
-all_pairs_show = refl
-
-all_singles_show : all_below (shows 0 1) 26 ≡ true
-unfolding shows rem
-all_singles_show = refl
+-- words of one bit or two have another remainder than r
+FewShow : ℕ → Type 0
+FewShow r = (all_below (λ s. all_below (shows r (1 + 2 * 2 ^ s)) 26) 26 ≡ true) × (all_below (shows r 1) 26 ≡ true)
 
 -- 0x238 is the sum of C and C'
-all_pairs_keep : all_below (λ s. all_below (shows 0x238 (1 + 2 * 2 ^ s)) 26) 26 ≡ true
-unfolding shows rem
-all_pairs_keep = refl
-
-all_singles_keep : all_below (shows 0x238 1) 26 ≡ true
-unfolding shows rem
-all_singles_keep = refl
+few_show : FewShow 0 × FewShow 0x238
+unfolding FewShow shows rem
+few_show = ((refl, refl), (refl, refl))
 
 all_patterns_show : all_below (λ half. all_below (shows 0 (2 * half + 1)) 26) 512 ≡ true
 unfolding shows rem
@@ -65,9 +57,9 @@ odd_few m odd small few more =
     (s, shift_below 1 s refl (omega (arith, whole, small)), omega (arith, whole, odd))
 
 -- a word of one bit or two has another remainder than r, if those of one bit and of two do
-few_bits : (r : ℕ) → all_below (λ s. all_below (shows r (1 + 2 * 2 ^ s)) 26) 26 ≡ true → all_below (shows r 1) 26 ≡ true
-    → (e : ℕ) → e < 2 ^ 26 → 1 ≤ ones e → ones e ≤ 2 → rem e ≢ r
-few_bits r pairs singles e block some few same_rem = elim (cases_eq e 0) [
+few_bits : (r : ℕ) → FewShow r → (e : ℕ) → e < 2 ^ 26 → 1 ≤ ones e → ones e ≤ 2 → rem e ≢ r
+unfolding FewShow
+few_bits r h e block some few same_rem = elim (cases_eq e 0) [
   | inl none ↦ absurd (omega (arith, some, ap ones none, ones-le 0 0 (lit< tt)))
   | inr pos ↦
       let part = pattern_of e (omega (arith, pos)) (omega (arith, block)) in
@@ -80,11 +72,11 @@ few_bits r pairs singles e block some few same_rem = elim (cases_eq e 0) [
       elim (cases_eq (m / 2) 0) [
         | inl one ↦
             let is : m ≡ 1 = omega (arith, one, part.1.odd) in
-            shown r m t small (subst (λ (n : ℕ). shows r n t ≡ true) (sym is) (passes_below (shows r 1) 26 t singles shift)) gone
+            shown r m t small (subst (λ (n : ℕ). shows r n t ≡ true) (sym is) (passes_below (shows r 1) 26 t h.1 shift)) gone
         | inr two ↦
             let below : m < 2 ^ 26 = omega (arith, small, pattern_least m t) in
             let bits = odd_few m part.1.odd below (omega (arith, same, few)) two in
-            let row = passes_below (λ s. all_below (shows r (1 + 2 * 2 ^ s)) 26) 26 bits.0 pairs bits.1 in
+            let row = passes_below (λ s. all_below (shows r (1 + 2 * 2 ^ s)) 26) 26 bits.0 h.0 bits.1 in
             shown r m t small (subst (λ (n : ℕ). shows r n t ≡ true) {x = 1 + 2 * 2 ^ bits.0} (sym {b = 1 + 2 * 2 ^ bits.0} bits.2) (passes_below (shows r (1 + 2 * 2 ^ bits.0)) 26 t row shift)) gone
       ]
 ]
@@ -112,8 +104,8 @@ pub detects_two_bits : DetectsBitErrors 2
 detects_two_bits w info o p e h block some few valid =
     let left = became w info e (number o) o p h valid in
     elim (one_number o p valid.own) [
-      | inl own ↦ few_bits 0 all_pairs_show all_singles_show e block some few (left ∙ own)
-      | inr other ↦ few_bits 0x238 all_pairs_keep all_singles_keep e block some few (left ∙ other)
+      | inl own ↦ few_bits 0 few_show.0 e block some few (left ∙ own)
+      | inr other ↦ few_bits 0x238 few_show.1 e block some few (left ∙ other)
     ]
 
 -- ---- how many words are corrected

@@ -1,62 +1,58 @@
 -- How many error masks of two, three and four bit errors miscorrect a block: the remainder and the span of the mask decide. The counts are
 -- computed, bit by bit.
-use Rattle.rds_code.proofs.Names.{common_steps, ◌≡◌, ◌≢◌, ◌⊎◌, ℕ, zero, suc, ◌+◌, ◌-◌, ◌*◌, ◌^◌, ◌<◌, ◌≤◌, List, [], ◌∷◌, ◌++◌, length, get_or, map, Bool, true, false, cond, not, ◌&&◌, refl, sym, ap, ap₂, ◌∙◌, arith, inl, inr, eqb, leb, subst, bit_xor, lit<, bit_at, filter, pow-suc, xor_assoc, xor_self, xor_zero_r, xor_shifted, count_leading_zeros, count_trailing_zeros, ones-le, get_or_append_left, get_or-append-add, xor_comm, xor_lt, cases_Bool, cases_eq, cases_lt, eq-eqb, ne_eqb, le-leb, leb-true, Offset, A, B, C, Cx, D, Wanted, Either, Reading, Corrected, rem, word, number, offset_of, burst_length, IsBurst, bursts, information, IsValid, wanted_offsets, corrections, by_only, reading, IsBlockOf, alone, other_third_offset, error_masks, is_miscorrection, miscorrections, miscorrected, miscorrected_third, miscorrected_either, CountsAllMiscorrections}
+use Rattle.rds_code.proofs.Names.{common_steps, ◌≡◌, ◌≢◌, ◌⊎◌, ℕ, zero, suc, ◌+◌, ◌-◌, ◌*◌, ◌/◌, ◌%◌, ◌^◌, ◌<◌, ◌≤◌, List, [], ◌∷◌, ◌++◌, length, get_or, map, Bool, true, false, cond, not, ◌&&◌, refl, sym, ap, ap₂, ◌∙◌, arith, inl, inr, eqb, leb, subst, bit_xor, lit<, filter, pow-suc, xor_assoc, xor_self, xor_zero_r, xor_shifted, count_leading_zeros, count_trailing_zeros, ones-le, xor_comm, xor_lt, cases_Bool, cases_eq, cases_lt, eq-eqb, eqb-true, ne_eqb, le-leb, leb-true, Offset, A, B, C, Cx, D, Wanted, Either, Reading, Corrected, rem, word, number, offset_of, burst_length, IsBurst, bursts, information, IsValid, wanted_offsets, corrections, by_only, reading, IsBlockOf, alone, other_third_offset, error_masks, is_miscorrection, miscorrections, miscorrected, miscorrected_third, miscorrected_either, CountsAllMiscorrections}
 use Rattle.rds_code.proofs.ReadingLemmas.{NoneFits, OneFits, fitting, fits_or_not, corrections_none, corrections_one, corrections_two, fits_by_remainder, wanted_remainder, wanted_remainder-lt, reads_valid, reads_corrected, valid_or_not, only_A, only_B, only_D, wanted_1, wanted_2, wanted_4}
-use Rattle.rds_code.proofs.{Membership.is_among, Membership.all_below, Membership.passes_below, Membership.each_below, Membership.among_map, Membership.from_map, Membership.filter_agree, CorrectionLemmas.undone, CorrectionLemmas.damaged, CorrectionLemmas.became, CorrectionLemmas.word_offset, CorrectionLemmas.alone_wanted, CorrectionLemmas.own_or_other, CorrectionLemmas.other_number, RemainderLemmas.rem-short, RemainderLemmas.rem-xor, RemainderLemmas.twice, BurstLemmas.burst_is_one, BurstLemmas.longer, BurstLemmas.limit_is_among, BurstLemmas.among_limit_is, EncodingLemmas.encoded_only, ErrorMasks.masks_are}
+use Rattle.rds_code.proofs.{Membership.is_among, Membership.all_below, Membership.all_pass, Membership.passes_among, Membership.passes_below, Membership.EachBelow, Membership.each_below, Membership.from_map, Membership.filter_agree, CorrectionLemmas.undone, CorrectionLemmas.damaged, CorrectionLemmas.became, CorrectionLemmas.word_offset, CorrectionLemmas.alone_wanted, CorrectionLemmas.own_or_other, CorrectionLemmas.other_number, RemainderLemmas.rem-short, RemainderLemmas.rem-xor, RemainderLemmas.twice, BurstLemmas.burst_is_one, BurstLemmas.longer, BurstLemmas.among_is_burst, BurstLemmas.burst_is_among, EncodingLemmas.encoded_only, ErrorMasks.masks_are}
 use Rattle.std.proofs.Math.Pow.{pow_pos}
 
--- ---- the remainders of the bursts, as the ones of a number
+-- ---- the remainders of the bursts, as the digits of a number
 
--- digit r is set if r is the remainder of a burst within the limit
-near : ℕ → ℕ
-near zero = 0
-near (suc zero) = 0x800080000000000000050000220000000000000000000808000000800000008000000000000000000000000000000000000000000000000100000000000000000300000000000000000000000000000000000000000000010000000010000000000000000000000100804000000000010080000100010116
-near (suc (suc zero)) = 0x82008000000000000005000022000000000000000000080900010080000009800000000000010000000000000000000000000000000000010000000000000000030000000000000101000010000001000000000000000001000000001000000110040010000000010080400142040001008182010101115e
-near (suc (suc (suc zero))) = 0x20000002010000008200900000000101000500002200000000001004000008090001009200000980020002004001000108000000000000080000000000100001000010000040001103000000004200010104001000008101800000000000040100400805100008011204001100000021088340014205000101818301111155fe
-near (suc (suc (suc (suc zero)))) = 0x2000004201124805820090000041016110050000220000010210100440000809000100920000098106280240462100010c2400000000100d22109020081200010008148300400919430000010c428001010400112008a101a200004304400401006108159009280112050011000928210987410143050101139193115555fffe
-near (suc (suc (suc (suc (suc zero))))) = 0x662408d301d26905820090090851056192052409261009810690d24540022809820501930000498506684241566380010ea694416118386d6310922d08b60441a20d1c9300410f39432124112ccb8001031520932889e901a269944b9443062903650935912d290117050191096969231b9753117315199157d5d775fffffffe
-near (suc (suc (suc (suc (suc (suc limit)))))) = 0
+-- digit r, of three bits, is the length of the burst with remainder r, and 6 if no burst of up to five bits has it
+lengths : ℕ
+lengths = 0xD5ED6EDAED76DB6BB6B35D9DDB6DB3B74DA6D2E9B5DB6D343B6D96DB6DB63B3DB6DB6BB5DB6BB6D35DB4DB6D73D26DB3BB4DAEDB6C71DAED76DB6BB5D8ED4EDB5DB6DB6BB5BB6DB4DB6D66BB4DB6B73DAED76CF5D36DB6DB6DAEDAE3B6DB63B2BB6DAEDB6D72DB6DB53B3D9DDB6DB6DB6DB6D765B23B6D74DB6D1ED669B6D76D9ED36DB5CF5D26D66DAABB6DB6DB6DB3DB672EBA6D2EBB5D76D76DB5D6EDB5DB5BB6DACBB6D6E734D66DA5DB4DB69B4DAEDA6B75DB69B6BABD66DB6D76D76DB1BAEDAEDB6975DB3B369B5DA4DB6DB6CF6DB5DB696CDAB9B3D36D89DAEDB5DAED76DB5DB4DAE936AF6B9D9B6DB6DB6DB2DB6DAADB5CF5DAEDB6BB2DACDA6BB6BB69B5766BB2DB6DB37A6DA6D6EBB5BB5D76D36BA4BB5D36D36DADDB6CEEDAEBB1DB6DADCE6D74DB67B5DACCF39B1DB5DAE974DA67B5DB6DB2DB2D5DDB6CB4DB6DB5BB2DB3DB6BB5D6E9B4D669B5D9EDA9DB57AC3B5D1BC75DACDB5DB2CADD94DB5CB3DB5BB4BB5DB1D74D63374D72574D53D6CD71B2BB2AB2BB298E28E169944E
 
-is_near : ℕ → ℕ → Bool
-unfolding near
-is_near limit r = eqb (bit_at (near limit) r) 1
+length_of : ℕ → ℕ
+length_of r = lengths / 2 ^ (3 * r) % 8
 
-same : Bool → Bool → Bool
-same a b = cond a b (not b)
+abbrev is_near : ℕ → ℕ → Bool
+is_near limit r = leb (length_of r) limit
 
-same_is : (a b : Bool) → same a b ≡ true → a ≡ b
-unfolding same
-same_is a b h = grind (arith, common_steps, same)
+has_length : ℕ → Bool
+has_length e = eqb (length_of (rem e)) (burst_length e)
 
-agrees : ℕ → List ℕ → ℕ → Bool
-agrees limit rs r = same (is_near limit r) (is_among r rs)
+all_have_length : all_pass has_length (bursts 5) ≡ true
+unfolding has_length length_of lengths rem count_leading_zeros count_trailing_zeros
+all_have_length = refl
 
-all_agree : all_below (λ limit. all_below (agrees limit (map rem (bursts limit))) 1024) 6 ≡ true
-unfolding agrees is_near near same rem
-all_agree = refl
+is_found : List ℕ → ℕ → Bool
+is_found rs r = cond (leb (length_of r) 5) (is_among r rs) true
 
-near_is : (limit r : ℕ) → limit ≤ 5 → r < 1024 → is_near limit r ≡ is_among r (map rem (bursts limit))
-unfolding agrees
-near_is limit r few small =
-    let row = passes_below (λ n. all_below (agrees n (map rem (bursts n))) 1024) 6 limit all_agree (omega (arith, few)) in
-    same_is (is_near limit r) (is_among r (map rem (bursts limit))) (passes_below (agrees limit (map rem (bursts limit))) 1024 r row small)
+all_found : all_below (is_found (map rem (bursts 5))) 1024 ≡ true
+unfolding is_found length_of lengths rem
+all_found = refl
 
 -- the damaged block v needs this remainder of a burst that makes of it one with offset o
 near_none : (limit v : ℕ) (o : Offset) → limit ≤ 5 → bit_xor (rem v) (word o) < 1024 → NoneFits limit v o → is_near limit (bit_xor (rem v) (word o)) ≡ false
+unfolding has_length is_found
 near_none limit v o few small h =
     let r : ℕ = bit_xor (rem v) (word o) in
-    elim (cases_Bool (is_among r (map rem (bursts limit)))) [
-      | inl found ↦
-          let from = from_map rem r (bursts limit) found in
-          absurd (h.none from.0 (among_limit_is limit from.0 few from.1) (fits_by_remainder v from.0 o from.2))
-      | inr none ↦ near_is limit r few small ∙ none
+    elim (cases_Bool (leb (length_of r) limit)) [
+      | inl near ↦
+          let least = leb-true (length_of r) limit near in
+          let found = sym (ap (λ (b : Bool). cond b (is_among r (map rem (bursts 5))) true) (le-leb (length_of r) 5 (omega (arith, least, few)))) ∙ passes_below (is_found (map rem (bursts 5))) 1024 r all_found small in
+          let from = from_map rem r (bursts 5) found in
+          let is : length_of (rem from.0) ≡ burst_length from.0 = eqb-true (length_of (rem from.0)) (burst_length from.0) (passes_among has_length from.0 (bursts 5) all_have_length from.1) in
+          let burst = among_is_burst from.0 from.1 in
+          absurd (h.none from.0 (record { is_block = burst.is_block; not_zero = burst.not_zero; short = omega (arith, least, is, ap length_of from.2) }) (fits_by_remainder v from.0 o from.2))
+      | inr far ↦ far
     ]
 
-near_one : (limit v : ℕ) (o : Offset) (d : ℕ) → limit ≤ 5 → bit_xor (rem v) (word o) < 1024 → OneFits limit v o d → is_near limit (bit_xor (rem v) (word o)) ≡ true
-near_one limit v o d few small h =
-    near_is limit (bit_xor (rem v) (word o)) few small
-    ∙ ap (λ (r : ℕ). is_among r (map rem (bursts limit))) (sym (wanted_remainder v d o h.fits))
-    ∙ among_map rem d (bursts limit) (limit_is_among limit d few h.burst)
+near_one : (limit v : ℕ) (o : Offset) (d : ℕ) → limit ≤ 5 → OneFits limit v o d → is_near limit (bit_xor (rem v) (word o)) ≡ true
+unfolding has_length
+near_one limit v o d few h =
+    let listed = burst_is_among d (longer limit d few h.burst) in
+    let is : length_of (rem d) ≡ burst_length d = eqb-true (length_of (rem d)) (burst_length d) (passes_among has_length d (bursts 5) all_have_length listed) in
+    le-leb (length_of (bit_xor (rem v) (word o))) limit (omega (arith, is, h.burst.short, ap length_of (wanted_remainder v d o h.fits)))
 
 -- ---- the tests of a mask, by its remainder and its span
 
@@ -75,7 +71,7 @@ either_test : ℕ → ℕ → ℕ → Bool
 either_test limit r n = cond (eqb r 0) false (cond (eqb r 0x238) false (one_of (is_near limit r) (is_near limit (bit_xor r 0x238)) (not (leb n limit))))
 
 near_zero : (limit : ℕ) → limit ≤ 5 → is_near limit 0 ≡ false
-unfolding is_near near
+unfolding length_of lengths
 near_zero limit few = each_below (λ l. is_near l 0 ≡ false) 6 (refl, (refl, (refl, (refl, (refl, (refl, tt)))))) limit (omega (arith, few))
 
 -- ---- the reading of a damaged block
@@ -126,7 +122,7 @@ module _ (w info e limit : ℕ) (o : Offset) (h : IsBlockOf w info o) (inside : 
         | inr some ↦
             let d : ℕ = some.0 in
             let one = some.1 in
-            let close : is_near limit (rem e) ≡ true = ap (is_near limit) (sym own_remainder) ∙ near_one limit v o d few small one in
+            let close : is_near limit (rem e) ≡ true = ap (is_near limit) (sym own_remainder) ∙ near_one limit v o d few one in
             ap (is_miscorrection o info) (read ∙ ap (by_only v) (corrections_one limit v o d one))
             ∙ mis_own o info (information (bit_xor v d)) d
             ∙ ap not (told d one.burst one.fits pos)
@@ -321,9 +317,19 @@ bits_below : ℕ → List (ℕ × ℕ)
 bits_below zero = []
 bits_below (suc k) = (2 ^ k, rem (2 ^ k)) ∷ bits_below k
 
+-- a number computed once for all its uses
+shared : ℕ → (ℕ → List ℕ) → List ℕ
+shared zero f = f zero
+shared (suc n) f = f (suc n)
+
+shared_is : (n : ℕ) (f : ℕ → List ℕ) → shared n f ≡ f n
+unfolding shared
+shared_is zero f = refl
+shared_is (suc n) f = refl
+
 -- how many masks each test passes that have the bits of e, whose remainder is r, and n of these bits
 walked : List Test → ℕ → List (ℕ × ℕ) → ℕ → ℕ → List ℕ
-walked ts zero bits e r = map (λ (t : Test). cond (t r (burst_length e)) 1 0) ts
+walked ts zero bits e r = shared r (λ q. shared (burst_length e) (λ n. map (λ (t : Test). cond (t q n) 1 0) ts))
 walked ts (suc n) [] e r = map (λ (t : Test). 0) ts
 walked ts (suc n) (bit ∷ bits) e r = add (walked ts (suc n) bits e r) (walked ts n bits (bit.0 + e) (bit_xor bit.1 r))
 
@@ -372,7 +378,7 @@ split p f g h agree (x ∷ xs) ys = grind (arith, common_steps, one_more, split 
 walked_are : (ts : List Test) (n k e r : ℕ) → NoCarry k e → r ≡ rem e
     → walked ts n (bits_below k) e r ≡ map (passed (map (λ d. e + d) (error_masks n k))) ts
 unfolding walked passed bits_below
-walked_are ts zero k e r above is = grind (arith, common_steps, same_maps, passed, one_more, walked, bits_below)
+walked_are ts zero k e r above is = grind (arith, common_steps, same_maps, passed, one_more, shared_is, walked, bits_below)
 walked_are ts (suc n) zero e r above is = refl
 walked_are ts (suc n) (suc k) e r above is = grind (arith, common_steps, no_carry_at, add, no_carry_below, no_carry_with, add-maps, passed, split, walked, bits_below, walked_are ts (suc n) k e r (no_carry_below k e above) is, walked_are ts n k (2 ^ k + e) (bit_xor (rem (2 ^ k)) r) (no_carry_with k e above) (ap (bit_xor (rem (2 ^ k))) is ∙ sym (no_carry_at k e above)))
 
@@ -385,11 +391,8 @@ unfolding all_limits
 all_tests = map (own_test 0) all_limits ++ own_test 0x238 5 ∷ map either_test all_limits
 
 -- a row of the others' table, the last count of block 3 if one offset is wanted, and its row if both are
-own_row : ℕ → List ℕ
-own_row k = get_or miscorrected k [] ++ get_or (get_or miscorrected_third k []) 5 0 ∷ []
-
 all_row : ℕ → List ℕ
-all_row k = own_row k ++ get_or miscorrected_either k []
+all_row k = get_or miscorrected k [] ++ get_or (get_or miscorrected_third k []) 5 0 ∷ get_or miscorrected_either k []
 
 -- the bits of a block
 block_bits : List (ℕ × ℕ)
@@ -405,20 +408,12 @@ bits_are : bits_below 26 ≡ block_bits
 unfolding bits_below block_bits rem
 bits_are = refl
 
-two_bits : walked all_tests 2 block_bits 0 0 ≡ all_row 0
-unfolding all_row own_row all_tests all_limits block_bits walked add own_test either_test one_of is_near near count_leading_zeros count_trailing_zeros
-two_bits = refl
+Counted : ℕ → Type 0
+Counted k = walked all_tests (2 + k) block_bits 0 0 ≡ all_row k
 
-three_bits : walked all_tests 3 block_bits 0 0 ≡ all_row 1
-unfolding all_row own_row all_tests all_limits block_bits walked add own_test either_test one_of is_near near count_leading_zeros count_trailing_zeros
-three_bits = refl
-
-four_bits : walked all_tests 4 block_bits 0 0 ≡ all_row 2
-unfolding all_row own_row all_tests all_limits block_bits walked add own_test either_test one_of is_near near count_leading_zeros count_trailing_zeros
-four_bits = refl
-
-walked_counts : (k : ℕ) → k ≤ 2 → walked all_tests (2 + k) block_bits 0 0 ≡ all_row k
-walked_counts k few = each_below (λ n. walked all_tests (2 + n) block_bits 0 0 ≡ all_row n) 3 (two_bits, (three_bits, (four_bits, tt))) k (omega (arith, few))
+all_counted : EachBelow Counted 3
+unfolding Counted all_row all_tests all_limits block_bits walked shared add own_test either_test one_of length_of lengths count_leading_zeros count_trailing_zeros
+all_counted = (refl, (refl, (refl, tt)))
 
 from_zero : (es : List ℕ) → map (λ d. 0 + d) es ≡ es
 from_zero [] = refl
@@ -426,13 +421,14 @@ from_zero (e ∷ es) = ap₂ (λ (x : ℕ) (xs : List ℕ). x ∷ xs) (omega ari
 
 -- how many masks each test passes
 all_counts : (n : ℕ) → 2 ≤ n → n ≤ 4 → map (passed (error_masks n 26)) all_tests ≡ all_row (n - 2)
+unfolding Counted
 all_counts n least most =
     let errors : n ≡ 2 + (n - 2) = omega (arith, least) in
     ap (λ (es : List ℕ). map (passed es) all_tests) (sym (from_zero (error_masks n 26)))
     ∙ sym (walked_are all_tests n 26 0 0 (no_carry_zero 26) (sym (rem-short 0 (lit< tt))))
     ∙ ap (λ (bits : List (ℕ × ℕ)). walked all_tests n bits 0 0) bits_are
     ∙ ap (λ (m : ℕ). walked all_tests m block_bits 0 0) errors
-    ∙ walked_counts (n - 2) (omega (arith, most))
+    ∙ each_below Counted 3 all_counted (n - 2) (omega (arith, most))
 
 -- the count of one test is its own of all of them
 own_passed : (es : List ℕ) (limit : ℕ) → limit ≤ 5 → passed es (own_test 0 limit) ≡ get_or (map (passed es) all_tests) limit 0
@@ -450,31 +446,23 @@ either_passed es limit few =
 
 -- up to four bits no burst takes block 3 over to the other version
 other_far : (limit : ℕ) → limit ≤ 4 → is_near limit 0x238 ≡ false
-unfolding is_near near
+unfolding length_of lengths
 other_far limit few = each_below (λ l. is_near l 0x238 ≡ false) 5 (refl, (refl, (refl, (refl, (refl, tt))))) limit (omega (arith, few))
 
 third_alike : (limit r n : ℕ) → limit ≤ 4 → own_test 0x238 limit r n ≡ own_test 0 limit r n
 unfolding own_test
-third_alike limit r n few = grind (arith, common_steps, is_near, eq-eqb, ne_eqb, other_far, near_zero, own_test)
+third_alike limit r n few = grind (arith, common_steps, eq-eqb, ne_eqb, other_far, near_zero, own_test)
 
-six : (k : ℕ) → k ≤ 2 → length (get_or miscorrected k []) ≡ 6
-six k few = each_below (λ i. length (get_or miscorrected i []) ≡ 6) 3 (refl, (refl, (refl, tt))) k (omega (arith, few))
+Entries : ℕ → ℕ → Type 0
+Entries k l = (get_or (all_row k) l 0 ≡ get_or (get_or miscorrected k []) l 0) × (get_or (all_row k) (7 + l) 0 ≡ get_or (get_or miscorrected_either k []) l 0)
 
-seven : (k : ℕ) → k ≤ 2 → length (own_row k) ≡ 7
-unfolding own_row
-seven k few = each_below (λ i. length (own_row i) ≡ 7) 3 (refl, (refl, (refl, tt))) k (omega (arith, few))
-
-own_place : (k limit : ℕ) → k ≤ 2 → limit ≤ 5 → get_or (all_row k) limit 0 ≡ get_or (get_or miscorrected k []) limit 0
-unfolding all_row own_row
-own_place k limit few short = grind (arith, common_steps, get_or_append_left, own_row, seven, six, all_row)
+entries : (k l : ℕ) → k ≤ 2 → l ≤ 5 → Entries k l
+unfolding Entries all_row
+entries k l few short = each_below (Entries k) 6 (each_below (λ i. EachBelow (Entries i) 6) 3 (((refl, refl), ((refl, refl), ((refl, refl), ((refl, refl), ((refl, refl), ((refl, refl), tt)))))), (((refl, refl), ((refl, refl), ((refl, refl), ((refl, refl), ((refl, refl), ((refl, refl), tt)))))), (((refl, refl), ((refl, refl), ((refl, refl), ((refl, refl), ((refl, refl), ((refl, refl), tt)))))), tt))) k (omega (arith, few))) l (omega (arith, short))
 
 third_place : (k : ℕ) → k ≤ 2 → get_or (all_row k) 6 0 ≡ get_or (get_or miscorrected_third k []) 5 0
-unfolding all_row own_row
-third_place k few = each_below (λ i. get_or (all_row i) 6 0 ≡ get_or (get_or miscorrected_third i []) 5 0) 3 (refl, (refl, (refl, tt))) k (omega (arith, few))
-
-either_place : (k limit : ℕ) → k ≤ 2 → get_or (all_row k) (7 + limit) 0 ≡ get_or (get_or miscorrected_either k []) limit 0
 unfolding all_row
-either_place k limit few = grind (arith, common_steps, own_row, seven, get_or-append-add, all_row)
+third_place k few = each_below (λ i. get_or (all_row i) 6 0 ≡ get_or (get_or miscorrected_third i []) 5 0) 3 (refl, (refl, (refl, tt))) k (omega (arith, few))
 
 -- the rows agree below the last limit
 rows_agree : (k limit : ℕ) → k ≤ 2 → limit ≤ 4 → get_or (get_or miscorrected k []) limit 0 ≡ get_or (get_or miscorrected_third k []) limit 0
@@ -494,6 +482,7 @@ unfolding passed
 by_test w info limit n o wanted t h few least is = grind (arith, common_steps, filter_agree, masks_are, mask_pos, passed)
 
 pub counts_all_miscorrections : CountsAllMiscorrections
+unfolding Entries
 counts_all_miscorrections w info o limit n h few least most = record {
   others = λ wanted apart.
       by_test w info limit n o wanted (own_test 0 limit) h few least (λ e inside pos. others_are w info e limit o wanted h inside few pos apart) ∙ own_at limit few;
@@ -515,9 +504,9 @@ counts_all_miscorrections w info o limit n h few least most = record {
       by_test w info limit n o Either (either_test limit) h few least (λ e inside pos. either_is w info e limit o h inside few pos own)
       ∙ either_passed (error_masks n 26) limit few
       ∙ ap (λ (xs : List ℕ). get_or xs (7 + limit) 0) (all_counts n least most)
-      ∙ either_place (n - 2) limit (omega (arith, most));
+      ∙ (entries (n - 2) limit (omega (arith, most)) few).1;
 }
   where
     own_at : (limit : ℕ) → limit ≤ 5 → passed (error_masks n 26) (own_test 0 limit) ≡ get_or (get_or miscorrected (n - 2) []) limit 0
     own_at limit few =
-        own_passed (error_masks n 26) limit few ∙ ap (λ (xs : List ℕ). get_or xs limit 0) (all_counts n least most) ∙ own_place (n - 2) limit (omega (arith, most)) few
+        own_passed (error_masks n 26) limit few ∙ ap (λ (xs : List ℕ). get_or xs limit 0) (all_counts n least most) ∙ (entries (n - 2) limit (omega (arith, most)) few).0

@@ -65,7 +65,7 @@ impl<'r> Model for StreamDecoder<'r> {
 }
 
 /// The result of the end of a stream.
-#[derive(Clone, Copy, Debug, PartialEq, Eq)]
+#[derive(Clone, Copy)]
 pub struct StreamEnd {
     /// The group in progress, as far as it was read.
     pub group: Option<Group>,

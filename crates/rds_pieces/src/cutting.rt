@@ -9,7 +9,7 @@ use std::marker::Model;
 
 /// The places at which a recording is cut: they rise strictly, the first is 0 and the last is the recording's length.
 /// Contracts see the list of places. A recording of no bits has the one cutting 0, without a piece.
-#[derive(Debug, Drop)]
+#[derive(Drop)]
 pub struct Cutting {
     places: Vec<u64>,
 }

@@ -2,7 +2,7 @@
 use rds_sync::State;
 
 /// A place of a run where another run may meet it: its first place, or the place after a bit that gave an item.
-#[derive(Clone, Copy, Debug, PartialEq, Eq)]
+#[derive(Clone, Copy)]
 pub struct Mark {
     /// The place of the next bit.
     pub place: u64,

@@ -101,15 +101,16 @@ fn sewn(beside: Beside, state: State, run: &PieceRun) -> Result<(Report, State),
     let _ = state;
     let Beside { own, guess, met_at } = beside;
     let end_state = own.state();
-    let mut report = own.report()?;
+    let report = own.report()?;
     match met_at {
         None => Ok((report, end_state)),
         Some(_place) => {
             let before = guess.report()?;
-            report.items.append_from(run.list(), before.items.len())?;
+            let Report { mut items, totals } = report;
+            items.append_from(run.list(), before.items.len())?;
             let rest = run.totals().less(before.totals);
-            report.totals = report.totals.plus(rest);
-            Ok((report, run.end_state()))
+            let totals = totals.plus(rest);
+            Ok((Report { items, totals }, run.end_state()))
         }
     }
 }

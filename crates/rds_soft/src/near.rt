@@ -127,21 +127,42 @@ pub(crate) fn read_all_again<R: Threads + Sync>(
     requires places { All (λ item. place_of item < 2 ^ 37) items.now }
     ensures { IfOk result (λ again. again ≡ map (near_again near.now) items.now) }
 {
-    let mut list = SoftList::new(alloc);
     if others.is_empty() || !has_work_for_several(items) {
-        for item in items {
-            match valid_in(item, near.before) {
-                Some(group) => list.push_valid(group)?,
-                None => list.push(item_in(search, near, item))?,
-            }
-        }
-        return Ok(list);
+        return read_each(alloc, search, near, items);
     }
     let mut room = vec![in alloc; SoftItem::LostLock { place: 0 }; items.len()]?;
     read_all(rt, near, search, others, items, room.as_mut_slice());
-    let found = room.as_slice();
-    for again in found {
-        list.push(*again)?;
+    list_of(alloc, room.as_slice())
+}
+
+/// The same by the calling thread.
+fn read_each(
+    alloc: Global,
+    search: &mut Search,
+    near: &Near,
+    items: &[Item],
+) -> Result<SoftList, AllocError>
+    requires limit { near.now.before ≤ 2 ^ 36 }
+    requires places { All (λ item. place_of item < 2 ^ 37) items.now }
+    ensures { IfOk result (λ again. again ≡ map (near_again near.now) items.now) }
+{
+    let mut list = SoftList::new(alloc);
+    for item in items {
+        match valid_in(item, near.before) {
+            Some(group) => list.push_valid(group)?,
+            None => list.push(item_in(search, near, item))?,
+        }
+    }
+    Ok(list)
+}
+
+/// These items as a list.
+fn list_of(alloc: Global, items: &[SoftItem]) -> Result<SoftList, AllocError>
+    ensures { IfOk result (λ list. list ≡ items.now) }
+{
+    let mut list = SoftList::new(alloc);
+    for item in items {
+        list.push(*item)?;
     }
     Ok(list)
 }

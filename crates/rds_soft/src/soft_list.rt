@@ -8,7 +8,7 @@ use std::alloc::{AllocError, Global};
 use std::marker::Model;
 
 /// A group whose four blocks are valid, and whose block 3 has the offset of the version that block 2 names, as most groups are.
-#[derive(Clone, Copy, Debug, PartialEq, Eq)]
+#[derive(Clone, Copy)]
 pub struct ValidGroup {
     /// The place of the first bit of block 1.
     pub place: u64,
@@ -17,7 +17,7 @@ pub struct ValidGroup {
 }
 
 /// An item of a list.
-#[derive(Clone, Copy, Debug, PartialEq, Eq)]
+#[derive(Clone, Copy)]
 pub enum Listed {
     Valid(ValidGroup),
     /// An acquisition, a loss or a group.

@@ -61,7 +61,7 @@ impl<'r> Model for SoftStream<'r> {
 }
 
 /// The result of the end of a stream of symbols.
-#[derive(Clone, Copy, Debug, PartialEq, Eq)]
+#[derive(Clone, Copy)]
 pub struct SoftEnd {
     /// The group in progress, as far as it was read.
     pub group: Option<SoftGroup>,

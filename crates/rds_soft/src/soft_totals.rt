@@ -9,7 +9,7 @@ use crate::soft_reading::{SoftReading, mask_of};
 use rds_sync::Totals;
 
 /// Counts over a list of items that were read again: this project's rule.
-#[derive(Clone, Copy, Debug, PartialEq, Eq)]
+#[derive(Clone, Copy)]
 pub struct SoftTotals {
     /// Those of any report. No block is corrected by a burst; `bits` are those that flips invert.
     pub totals: Totals,

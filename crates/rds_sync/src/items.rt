@@ -24,7 +24,7 @@ pub(crate) const SPAN_ITEMS: u64 = 256;
 pub(crate) const SPAN_PLACES: u64 = 4096;
 
 /// Into how many spans a list cuts the run that it is given.
-#[derive(Clone, Copy, Debug, PartialEq, Eq)]
+#[derive(Clone, Copy)]
 pub enum Spans {
     /// Some hundred items each, over some thousand places: any item is near.
     Short,

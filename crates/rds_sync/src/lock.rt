@@ -22,7 +22,7 @@ const LEAST_DUE: u64 = FIRST_WINDOW + 2 * BLOCK_PLACES;
 /// The next block ends at place `due` and is read as block `number` (1 to 4). The first block that was read
 /// in the group in progress has number `first`, which is below `number`; both are 1 if no group is in
 /// progress.
-#[derive(Clone, Copy, Debug, PartialEq, Eq)]
+#[derive(Clone, Copy, PartialEq, Eq)]
 pub struct Lock {
     /// The place at which the next block ends.
     pub due: u64,

@@ -19,7 +19,7 @@ pub enum Loss {
 }
 
 /// The history of bad blocks of a lock, by the kind of its rule.
-#[derive(Clone, Copy, Debug, PartialEq, Eq)]
+#[derive(Clone, Copy)]
 pub enum Bad {
     /// By `Loss::Run`: how many were bad in a row.
     Run(u8),

@@ -7,7 +7,7 @@ use crate::lock::Lock;
 use crate::rules::Rules;
 
 /// The state before a bit: this project's rule, after the flywheel of annex C.
-#[derive(Clone, Copy, Debug, PartialEq, Eq)]
+#[derive(Clone, Copy, PartialEq, Eq)]
 pub enum State {
     /// No block is known: each bit is tried as the last of a block that acquires.
     Searching,

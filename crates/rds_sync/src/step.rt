@@ -4,7 +4,7 @@ use crate::item::Item;
 use crate::state::State;
 
 /// Where a run is after a step, and the items that the step found.
-#[derive(Clone, Copy, Debug, PartialEq, Eq)]
+#[derive(Clone, Copy)]
 pub struct Step {
     /// The place of the next bit.
     pub place: u64,

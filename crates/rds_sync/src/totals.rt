@@ -7,7 +7,7 @@ use crate::counts::{Counts, MOST_ITEMS};
 use crate::item::{Group, Item};
 
 /// Twelve counts over a list of items: this project's rule. Blocks that are missing are not counted.
-#[derive(Clone, Copy, Debug, PartialEq, Eq)]
+#[derive(Clone, Copy)]
 pub struct Totals {
     /// Valid blocks.
     pub valid: u64,

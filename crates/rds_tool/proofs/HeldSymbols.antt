@@ -1,6 +1,6 @@
 -- Symbols that are decoded as they come: of all symbols those that count say the same.
-use Rattle.rds_tool.proofs.Names.{common_steps, arith, ◌≡◌, ◌<◌, ◌≤◌, ◌+◌, ◌-◌, ◌^◌, ◌++◌, ◌∷◌, ◌∙◌, Bool, Err, List, [], None, Ok, Option, Result, Some, ap, cases_lt, drop, false, flat_map, if◌then◌else◌, inl, inr, le-ltb, lt-ltb, length, length-append, length-take, map, min, range_with_len, refl, report_items, sym, subst, take, take_all, true, ℕ, and_then, claimed_of, recording_of_symbols, hard_bit, symbols_of, soft_report_text, soft_row, soft_text, soft_totals_text, AreGaps, RuleNumbers, Signal, SoftItem, SoftTerms, length_of, BadGaps, BitsPastBytes, TooLong, RdsError}
-use Rattle.rds_tool.proofs.{CountedBytes.take_on, GapLists.are_gaps, GapLists.pass_as_gaps}
+use Rattle.rds_tool.proofs.Names.{common_steps, arith, ◌≡◌, ◌<◌, ◌≤◌, ◌+◌, ◌-◌, ◌^◌, ◌++◌, ◌∷◌, ◌∙◌, Bool, Err, List, [], None, Ok, Option, Result, Some, ap, cases_lt, drop, false, flat_map, if◌then◌else◌, inl, inr, le-ltb, lt-ltb, length, length-take, map, min, range_with_len, refl, report_items, sym, subst, take, take_all, true, ℕ, and_then, claimed_of, recording_of_symbols, hard_bit, symbols_of, soft_report_text, soft_row, soft_text, soft_totals_text, AreGaps, RuleNumbers, Signal, SoftItem, SoftTerms, length_of, BadGaps, BitsPastBytes, TooLong, RdsError}
+use Rattle.rds_tool.proofs.{GapLists.are_gaps, GapLists.pass_as_gaps}
 use Rattle.rds_tool.specs.{Inside.HeldSymbols.HeldTerms, Inside.HeldSymbols.IsHeld, Inside.HeldSymbols.most_heard, Inside.HeldSymbols.text_of_held}
 use Rattle.rds_soft.specs.ReadAgain.{item_again}
 use Rattle.rds_soft.specs.{ReadAgain.group_again, ReadAgain.first_bit, ReadAgain.symbols_heard, SoftStream.SoftHeard, SoftStream.complete, SoftStream.group_item, SoftStream.report_of, SoftStream.signal_of, SoftTotals.soft_totals_of, Symbols.hard_bits, Symbols.sign, declared.soft_item.SoftGroup.SoftGroup, declared.soft_item.SoftItem.TheVariants.Group as InSoft, declared.soft_totals.SoftTotals.SoftTotals}
@@ -141,17 +141,6 @@ never-gaps terms bits has_rows held count counts few there none =
 -- ---- symbols that were taken
 
 module _ (stream : SoftHeard) (bits : Option ℕ) (has_rows : Bool) (items : List SoftItem) (count : ℕ) (held : List ℕ) (is : IsHeld stream bits has_rows items count held) where
-  -- more of them
-  pub held-on : (stream' : SoftHeard) (has_rows' : Bool) (items' : List SoftItem) (count' k : ℕ) (more : List ℕ) → k ≡ min (most_heard bits - length stream.symbols) (length more)
-      → stream'.symbols ≡ stream.symbols ++ take k more → count' ≡ min (count + length more) (2 ^ 64 - 1) → (has_rows' ≡ true → items' ≡ complete stream'.terms stream'.symbols)
-      → IsHeld stream' bits has_rows' items' count' (held ++ more)
-  held-on stream' has_rows' items' count' k more few heard counts listed = record {
-    heard = heard ∙ ap (λ xs. xs ++ take k more) is.heard
-        ∙ sym (take_on (most_heard bits) k held more (omega (arith, few, ap (λ (xs : List ℕ). length xs) is.heard, length-take (most_heard bits) held)));
-    counts = omega (arith, counts, is.counts, length-append held more);
-    listed = listed;
-  }
-
   module _ (few : unwrap_or bits (count - 1) ≤ 2 ^ 36) (there : unwrap_or bits (count - 1) ≤ count - 1) where
     claim : claimed_of bits held ≡ unwrap_or bits (count - 1)
     claim = claim-is bits count held is.counts few
@@ -181,11 +170,12 @@ module _ (stream : SoftHeard) (bits : Option ℕ) (has_rows : Bool) (items : Lis
           ∙ ap₂ (λ (h : Bool) (xs : List ℕ). Ok (soft_report_text h (report_of stream.terms xs))) asked (sym heard-is)
           ∙ ap (λ (t : SoftTotals). Ok ((if h then flat_map soft_row (report_of stream.terms stream.symbols) else []) ++ soft_totals_text t)) (sym sum)
 
-      pub rows-made : has_rows ≡ true → (group : Option SoftGroup) (list : List SoftItem) → list ≡ items ++ group_item group
-          → complete stream.terms stream.symbols ++ group_item group ≡ report_of stream.terms stream.symbols → text ≡ Ok (flat_map soft_row list ++ soft_totals_text totals)
-      rows-made asked group list made whole =
-          said true asked
-          ∙ ap (λ (xs : List SoftItem). Ok (flat_map soft_row xs ++ soft_totals_text totals)) (sym (made ∙ ap (λ (xs : List SoftItem). xs ++ group_item group) (is.listed asked) ∙ whole))
+      same-rows : (group : Option SoftGroup) → complete stream.terms stream.symbols ++ group_item group ≡ report_of stream.terms stream.symbols
+          → (h : Bool) → has_rows ≡ h → (if h then flat_map soft_row (report_of stream.terms stream.symbols) else []) ≡ (if h then flat_map soft_row (items ++ group_item group) else [])
+      same-rows group all true asked =
+          ap (λ (xs : List SoftItem). flat_map soft_row xs) (sym (ap (λ (xs : List SoftItem). xs ++ group_item group) (is.listed asked) ∙ all))
+      same-rows group all false asked = refl
 
-      pub totals-made : has_rows ≡ false → text ≡ Ok (soft_totals_text totals)
-      totals-made asked = said false asked
+      pub text-made : (group : Option SoftGroup) → complete stream.terms stream.symbols ++ group_item group ≡ report_of stream.terms stream.symbols
+          → text ≡ Ok ((if has_rows then flat_map soft_row (items ++ group_item group) else []) ++ soft_totals_text totals)
+      text-made group whole = said has_rows refl ∙ ap (λ (rows : List ℕ). Ok (rows ++ soft_totals_text totals)) (same-rows group whole has_rows refl)

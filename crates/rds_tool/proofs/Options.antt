@@ -1,5 +1,5 @@
 -- Commands that are made of the rows of a table, one after the other.
-use Rattle.rds_tool.proofs.Names.{common_steps, arith, ◌+◌, ◌<◌, ◌≤◌, ◌∙◌, ◌≡◌, List, ap, drop, false, get_or, length, sym, ℕ, drop_all, drop_more, AddsArg, AddsSubcommand, App, rule_of, Command, ReadsAs, app_of_row, rule_of_row, with_command, with_each, with_option}
+use Rattle.rds_tool.proofs.Names.{common_steps, arith, ◌+◌, ◌<◌, ◌≤◌, ◌∙◌, ◌≡◌, List, [], ◌∷◌, refl, ap, drop, false, get_or, length, sym, ℕ, drop_all, drop_more, AddsArg, AddsSubcommand, App, rule_of, Command, ReadsAs, app_of_row, bare_app, rds_app, rule_of_row, with_command, with_each, with_option}
 use Rattle.rds_tool.specs.declared.commands.{CommandRow.CommandRow, OptionRow.OptionRow}
 use Rattle.clap.specs.declared.builder.arg.Arg.{Arg}
 
@@ -36,3 +36,9 @@ pub next_option : (whole : App) (old new : Command) (arg : Arg) (rows : List Opt
     → HasRest with_option old (drop i rows) whole → i < length rows
     → AddsArg old arg new → arg.global ≡ false → rule_of arg ≡ rule_of_row (get_or rows i d) → HasRest with_option new (drop (i + 1) rows) whole
 next_option whole old new arg rows i d has some adds local is = grind (arith, common_steps, next, with_one_option)
+
+-- the commands of the rows of the table, one after the other, are the program's
+pub five_commands : (a b c d e : CommandRow) → (app_of_row a).top ≡ get_or rds_app.subs 0 rds_app.top → (app_of_row b).top ≡ get_or rds_app.subs 1 rds_app.top
+    → (app_of_row c).top ≡ get_or rds_app.subs 2 rds_app.top → (app_of_row d).top ≡ get_or rds_app.subs 3 rds_app.top
+    → (app_of_row e).top ≡ get_or rds_app.subs 4 rds_app.top → with_each with_command bare_app (a ∷ b ∷ c ∷ d ∷ e ∷ []) ≡ rds_app
+five_commands a b c d e p q r s t = rw (p, q, r, s, t) refl

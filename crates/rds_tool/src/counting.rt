@@ -8,6 +8,7 @@ ghost use Rattle.rds_code.specs.Refusals.{IsMemoryOrErrOf};
 ghost use Rattle.rds_tool.specs.Inside.Counters.{claimed_by, whole};
 
 use crate::Input;
+use crate::following::end_after;
 use crate::input::decode_digits;
 use crate::listing::totals_rows;
 use crate::taker::Taker;
@@ -100,14 +101,8 @@ impl<'a> Counter<'a> {
         }
         let live = self.live.into_decoder(rt, alloc);
         let left = bits - live.place();
-        if !live.may_end_after(left) {
-            return Err(RdsError::BadGaps);
-        }
-        let mut items = Vec::with_capacity(alloc, 2 * left as usize)?;
-        match live.finish_with(&[self.last], left, &mut items) {
-            Ok(end) => Ok(end.totals),
-            Err(_) => unreachable!(),
-        }
+        let ended = end_after(alloc, live, &[self.last], left)?;
+        Ok(ended.1.totals)
     }
 }
 

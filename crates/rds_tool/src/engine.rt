@@ -1,17 +1,19 @@
 //! From a reader to a writer.
 ghost use Rattle.std.specs.Prelude.{◌+◌, ◌++◌, ◌<◌, ◌^◌, ◌≡◌, ◌≤◌, ◌⊎◌, ◌↔◌, IfErr, IfOk, IfSome, IsErrOf, List, [], Ok, OnOk, false, length, true, ℕ};
 ghost use Rattle.std.specs.Io.KnownBytes.{Consumes, IsAtEnd};
+ghost use Rattle.rds_tool.specs.declared.task.Task.TheVariants as a_task;
 ghost use Rattle.rds_tool.specs.{History.Gave, Outcome.text_of_task, Tasks.task_of, Transcribed.IsTranscribed};
 
 use crate::counting::InputCounter;
 use crate::group_lines::HeldLines;
 use crate::held_symbols::HeldSymbols;
 use crate::taker::Taker;
-use crate::task::Task;
-use crate::{Failed, Job, Sink, Source};
+use crate::task::{Plan, Task};
+use crate::{Failed, Input, Job, Sink, Source};
 use rds_code::RdsError;
 use rds_crew::{Gate, OpenGate};
 use rds_live::may_have_gaps;
+use rds_soft::Margin;
 use std::alloc::{AllocError, Global};
 use std::thread::Threads;
 
@@ -90,25 +92,65 @@ fn transcribe_task<R: Threads + Sync, S: Source, K: Sink, G: Gate + Sync>(
 {
     match task {
         Task::Totals(input, plan) => {
-            if plan.is_cut_evenly() && !gate.wants_calls() && may_have_gaps(input.gaps.as_slice()) {
-                let counter = InputCounter::new(alloc, &input, plan.rules(), plan.workers())?;
-                return transcribe_by(rt, alloc, reader, writer, counter);
-            }
-            transcribe_held(rt, alloc, reader, writer, Task::Totals(input, plan), gate)
+            transcribe_totals(rt, alloc, reader, writer, input, plan, gate)
         }
         Task::Soft(input, plan, margin, has_rows) => {
-            if may_have_gaps(input.gaps.as_slice()) {
-                let symbols = HeldSymbols::new(alloc, &input, &plan, margin, has_rows)?;
-                return transcribe_by(rt, alloc, reader, writer, symbols);
-            }
-            let soft = Task::Soft(input, plan, margin, has_rows);
-            transcribe_held(rt, alloc, reader, writer, soft, gate)
+            transcribe_soft(
+                rt, alloc, reader, writer, input, plan, margin, has_rows, gate,
+            )
         }
         Task::Encode { hex } => {
             transcribe_by(rt, alloc, reader, writer, HeldLines::new(alloc, hex))
         }
         task => transcribe_held(rt, alloc, reader, writer, task, gate),
     }
+}
+
+/// Totals are counted while the bytes come, if there is neither a cut at a place nor a gate that wants calls.
+fn transcribe_totals<R: Threads + Sync, S: Source, K: Sink, G: Gate + Sync>(
+    rt: &R,
+    alloc: Global,
+    reader: &mut S,
+    writer: &mut K,
+    input: Input,
+    plan: Plan<'_>,
+    gate: &G,
+) -> Result<(), RdsError>
+    requires reads { S.failed reader.old < 2 ^ 63 }
+    requires writes { K.failed writer.old < 2 ^ 63 }
+    ensures { (job : Job) → task_of job ≡ Ok (a_task.Totals input plan.entry)
+        → IsTranscribed S.Source K.Sink job reader.old reader.new writer.old writer.new result }
+{
+    if plan.is_cut_evenly() && !gate.wants_calls() && may_have_gaps(input.gaps.as_slice()) {
+        let counter = InputCounter::new(alloc, &input, plan.rules(), plan.workers())?;
+        return transcribe_by(rt, alloc, reader, writer, counter);
+    }
+    transcribe_held(rt, alloc, reader, writer, Task::Totals(input, plan), gate)
+}
+
+/// Symbols are decoded while they come.
+fn transcribe_soft<R: Threads + Sync, S: Source, K: Sink, G: Gate + Sync>(
+    rt: &R,
+    alloc: Global,
+    reader: &mut S,
+    writer: &mut K,
+    input: Input,
+    plan: Plan<'_>,
+    margin: Margin,
+    has_rows: bool,
+    gate: &G,
+) -> Result<(), RdsError>
+    requires reads { S.failed reader.old < 2 ^ 63 }
+    requires writes { K.failed writer.old < 2 ^ 63 }
+    ensures { (job : Job) → task_of job ≡ Ok (a_task.Soft input plan.entry margin has_rows)
+        → IsTranscribed S.Source K.Sink job reader.old reader.new writer.old writer.new result }
+{
+    if may_have_gaps(input.gaps.as_slice()) {
+        let symbols = HeldSymbols::new(alloc, &input, &plan, margin, has_rows)?;
+        return transcribe_by(rt, alloc, reader, writer, symbols);
+    }
+    let soft = Task::Soft(input, plan, margin, has_rows);
+    transcribe_held(rt, alloc, reader, writer, soft, gate)
 }
 
 /// Has all bytes of the reader taken, and writes the text that is made of them.

@@ -5,7 +5,7 @@ ghost use Rattle.rds_tool.specs.declared.fault.NoJob.TheVariants.{Memory};
 use std::alloc::AllocError;
 
 /// Why words ask for nothing.
-#[derive(Clone, Copy, Debug, PartialEq, Eq)]
+#[derive(Clone, Copy, PartialEq, Eq)]
 pub enum FaultKind {
     /// Help was asked for.
     Help,
@@ -18,7 +18,7 @@ pub enum FaultKind {
 }
 
 /// The text to show instead of doing a job.
-#[derive(Debug, Drop)]
+#[derive(Drop)]
 pub struct CliFault {
     /// Whether that text was asked for, or why the words were refused.
     pub kind: FaultKind,

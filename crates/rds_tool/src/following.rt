@@ -1,7 +1,7 @@
 //! From a reader to a writer, as the bytes come.
 ghost use Rattle.std.specs.Prelude.{◌+◌, ◌-◌, ◌*◌, ◌++◌, ◌<◌, ◌^◌, ◌≡◌, ◌≢◌, ◌≤◌, ◌⊎◌, ◌↔◌, [], IfErr, IfOk, IsOkUnless, IfSome, IsErrOf, List, None, Ok, OnOk, Option, Some, length, take, true, ℕ};
 ghost use Rattle.std.specs.{Io.KnownBytes.Consumes, Io.KnownBytes.IsAtEnd, Io.KnownBytes.Keeps, Io.KnownBytes.Appends, List.flat_map};
-ghost use Rattle.rds_live.specs.StreamDecoder.{HasHeard, live_of, report_at};
+ghost use Rattle.rds_live.specs.StreamDecoder.{HasHeard, complete, live_of, report_at};
 ghost use Rattle.rds_stream.specs.Recording.{AreGaps};
 ghost use Rattle.rds_sync.specs.{Advance.group_item, Totals.totals_of};
 ghost use Rattle.rds_tool.specs.{Following.Follows, Following.IsHeardOut, Following.IsLong, Following.bit_stream, Following.listed, Following.most_read, Following.rows_so_far, History.Gave, Inside.Streams.Breaks, Inside.Streams.IsHeard, Inside.Streams.IsNear, Inside.Streams.IsPlaceOf, Inside.Streams.IsShortEnough, Inside.Streams.bits_left as the_bits_left, Listing.item_row, Listing.report_text, Listing.totals_text, Outcome.Writes, Outcome.WritesPrefix};
@@ -322,13 +322,37 @@ fn rows_of_rest(
         → AreGaps (live.entry.place + bits) live.entry.terms.gaps → ⊥ }
     ensures kinds { IfErr result (λ error. (error ≡ RdsError.OutOfMemory) ⊎ (error ≡ RdsError.BadGaps)) }
 {
+    let (items, end) = end_after(alloc, live, bytes, bits)?;
+    let text = rows_to_end(alloc, items.as_slice(), &end)?;
+    Ok(text)
+}
+
+/// The items that the first `bits` bits of these bytes complete, and the end of the stream after them.
+pub(crate) fn end_after(
+    alloc: Global,
+    live: StreamDecoder<'_>,
+    bytes: &[u8],
+    bits: u64,
+) -> Result<(Vec<Item>, StreamEnd), RdsError>
+    requires held { bits ≤ 8 * length bytes.now }
+    requires few { bits ≤ 8 }
+    requires limit { live.place + bits ≤ 2 ^ 36 }
+    ensures items { IfOk result (λ ended. (before : List ℕ) → HasHeard live.entry before
+        → complete live.entry.terms before ++ ended.0.items ++ group_item ended.1.group
+        ≡ report_at live.entry.terms (before ++ bytes.now) (8 * length before + bits)) }
+    ensures totals { IfOk result (λ ended. (before : List ℕ) → HasHeard live.entry before
+        → ended.1.totals ≡ totals_of (report_at live.entry.terms (before ++ bytes.now) (8 * length before + bits))) }
+    ensures gaps { OnOk result (AreGaps (live.entry.place + bits) live.entry.terms.gaps) }
+    ensures bad_gaps { IsErrOf result RdsError.BadGaps
+        → AreGaps (live.entry.place + bits) live.entry.terms.gaps → ⊥ }
+    ensures kinds { IfErr result (λ error. (error ≡ RdsError.OutOfMemory) ⊎ (error ≡ RdsError.BadGaps)) }
+{
     if !live.may_end_after(bits) {
         return Err(RdsError::BadGaps);
     }
     let mut items = Vec::with_capacity(alloc, 2 * bits as usize)?;
     let end = live.finish_with(bytes, bits, &mut items)?;
-    let text = rows_to_end(alloc, items.as_slice(), &end)?;
-    Ok(text)
+    Ok((items, end))
 }
 
 /// The rows of the last items of a listing, and those of its end: of the group in progress, if there is one, and of

@@ -169,18 +169,14 @@ impl<'t> Taker<'t> for HeldLines {
 
     fn take<R: Threads + Sync>(
         &mut self,
-        rt: &R,
-        alloc: Global,
+        _rt: &R,
+        _alloc: Global,
         bytes: &mut [u8],
     ) -> Result<(), AllocError> {
-        let _ = rt;
-        let _ = alloc;
         self.lines.push(bytes)
     }
 
-    fn finish<R: Threads + Sync>(self, rt: &R, alloc: Global) -> Result<Text<'t>, RdsError> {
-        let _ = rt;
-        let _ = alloc;
+    fn finish<R: Threads + Sync>(self, _rt: &R, _alloc: Global) -> Result<Text<'t>, RdsError> {
         Ok(Text::Groups(self.lines.finish()?, self.hex))
     }
 }

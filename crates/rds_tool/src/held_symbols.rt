@@ -1,9 +1,9 @@
 //! Symbols that are decoded while they come, and of which only the items are held.
-ghost use Rattle.std.specs.{Prelude.◌++◌, Prelude.◌-◌, Prelude.◌<◌, Prelude.◌^◌, Prelude.◌≡◌, Prelude.◌≤◌, Prelude.◌⊎◌, Prelude.[], Prelude.Err, Prelude.IfErr, Prelude.IfOk, Prelude.Ok, Prelude.OnOk, Prelude.Some, Prelude.length, Option.unwrap_or};
+ghost use Rattle.std.specs.{Prelude.◌++◌, Prelude.◌-◌, Prelude.◌<◌, Prelude.◌^◌, Prelude.◌≡◌, Prelude.◌≤◌, Prelude.◌⊎◌, Prelude.[], Prelude.Err, Prelude.IfErr, Prelude.IfOk, Prelude.Ok, Prelude.OnOk, Prelude.Some, Prelude.length, Prelude.if◌then◌else◌, List.flat_map, Option.unwrap_or};
 ghost use Rattle.rds_soft.specs.SoftStream.{group_item};
 ghost use Rattle.rds_code.specs.Refusals.{IsMemoryOrErrOf};
 ghost use Rattle.rds_stream.specs.Recording.{AreGaps};
-ghost use Rattle.rds_tool.specs.{Inside.HeldSymbols.most_heard as the_most_heard, Inside.HeldSymbols.text_of_held, Inside.Texts.bytes_of, Soft.soft_totals_text};
+ghost use Rattle.rds_tool.specs.{Inside.HeldSymbols.most_heard as the_most_heard, Inside.HeldSymbols.text_of_held, Inside.Texts.bytes_of, Soft.soft_row, Soft.soft_totals_text};
 
 use crate::Input;
 use crate::rows::RowWriter;
@@ -160,17 +160,29 @@ impl<'t> Taker<'t> for HeldSymbols<'_> {
         listed
     }
 
-    fn finish<R: Threads + Sync>(self, rt: &R, alloc: Global) -> Result<Text<'t>, RdsError> {
-        let _ = rt;
+    fn finish<R: Threads + Sync>(self, _rt: &R, alloc: Global) -> Result<Text<'t>, RdsError> {
         check_symbols(self.bits, self.count)?;
         if !self.stream.may_end() {
             return Err(RdsError::BadGaps);
         }
         let end = self.stream.finish(alloc)?;
-        if self.has_rows {
-            Ok(Text::Soft(whole_list(self.items, &end)?, end.totals))
-        } else {
-            Ok(Text::Whole(soft_totals_rows(alloc, &end.totals)?))
-        }
+        Ok(text_of_end(alloc, self.has_rows, self.items, end)?)
+    }
+}
+
+/// The listing of these items and the end, or only its totals.
+fn text_of_end<'a>(
+    alloc: Global,
+    has_rows: bool,
+    items: SoftList,
+    end: SoftEnd,
+) -> Result<Text<'a>, AllocError>
+    ensures { IfOk result (λ text. bytes_of text
+        ≡ (if has_rows then flat_map soft_row (items ++ group_item end.group) else []) ++ soft_totals_text end.totals) }
+{
+    if has_rows {
+        Ok(Text::Soft(whole_list(items, &end)?, end.totals))
+    } else {
+        Ok(Text::Whole(soft_totals_rows(alloc, &end.totals)?))
     }
 }

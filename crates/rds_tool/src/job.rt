@@ -7,7 +7,7 @@ use rds_sync::{Loss, RuleNumbers};
 use std::marker::Model;
 
 /// The recording that a job reads.
-#[derive(Debug, Drop)]
+#[derive(Drop)]
 pub struct Input {
     /// Whether the input is hexadecimal text, in which space, tab, carriage return and line feed don't
     /// count; else it is the recording's bytes themselves.
@@ -44,7 +44,7 @@ impl Eq for Input {
 }
 
 /// Where a recording is cut into pieces. The listing doesn't depend on it.
-#[derive(Debug, PartialEq, Eq, Drop)]
+#[derive(PartialEq, Eq, Drop)]
 pub enum Cuts {
     /// At most this number of pieces, of equal length except the last. `Even(0)` is refused as `BadCutting`.
     Even(u64),
@@ -56,7 +56,7 @@ pub enum Cuts {
 
 /// How synchronism is acquired, kept and lost, and who does the work. Settings outside their range are
 /// refused, not clipped.
-#[derive(Debug, PartialEq, Eq, Drop)]
+#[derive(PartialEq, Eq, Drop)]
 pub struct Settings {
     /// The longest burst of errors that is corrected, in bits: 0 to 5.
     pub burst: u32,
@@ -73,7 +73,7 @@ pub struct Settings {
 }
 
 /// The task for the bytes that a reader holds.
-#[derive(Debug, PartialEq, Eq, Drop)]
+#[derive(PartialEq, Eq, Drop)]
 pub enum Job {
     /// A row for each valid window of a recording: its place and its offset. The rows are made by at most
     /// this number of threads, 1 to 256 as for [`Settings::workers`], and don't depend on it.
@@ -99,7 +99,7 @@ pub enum Job {
 }
 
 /// The request of a command line, and the option that it gives in vain.
-#[derive(Debug, PartialEq, Eq, Drop)]
+#[derive(PartialEq, Eq, Drop)]
 pub struct Asked {
     pub request: Request,
     /// The option that is ignored, of which the program warns.
@@ -107,7 +107,7 @@ pub struct Asked {
 }
 
 /// A job, or a stream.
-#[derive(Debug, PartialEq, Eq, Drop)]
+#[derive(PartialEq, Eq, Drop)]
 pub enum Request {
     /// A job, and whether the program is to tell how far it is. The job's text doesn't depend on it.
     Job {
@@ -128,7 +128,7 @@ pub enum Request {
 }
 
 /// An option of the rule of loss that the rule asked for leaves out.
-#[derive(Clone, Copy, Debug, PartialEq, Eq)]
+#[derive(Clone, Copy, PartialEq, Eq)]
 pub enum Ignored {
     /// `--loss` beside `--share`.
     Loss,

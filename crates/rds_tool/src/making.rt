@@ -1,6 +1,6 @@
 //! From a job to its task, and on to the text that it makes of the bytes that a reader held.
 ghost use Rattle.std.specs.Prelude.{◌≡◌, Err, IfErr, IfOk, Ok};
-ghost use Rattle.rds_tool.specs.{Listing.totals_text, Outcome.cut_recording, Outcome.text_of_task, Plans.plan_of, Inside.Texts.bytes_of};
+ghost use Rattle.rds_tool.specs.{Outcome.text_of_task, Plans.plan_of, Inside.Texts.bytes_of};
 ghost use Rattle.rds_code.specs.Refusals.{IsMemoryOrErrOf};
 ghost use Rattle.rds_tool.specs.declared.task.Task.TheVariants as task;
 
@@ -15,7 +15,7 @@ use crate::{Input, Job, Settings};
 use rds_code::RdsError;
 use rds_crew::Gate;
 use rds_soft::Margin;
-use rds_sync::{Spans, Totals};
+use rds_sync::Spans;
 use std::alloc::Global;
 use std::thread::Threads;
 
@@ -66,17 +66,10 @@ impl<'a> Task<'a> {
         ensures refused { IfErr result (IsMemoryOrErrOf (text_of_task self.entry held.items)) }
     {
         match self {
-            Task::Scan(input, workers) => Ok(Text::Windows(recording_of(input, held)?, workers)),
+            Task::Scan(input, workers) => windows_of(input, workers, held),
             Task::List(input, plan) => list_of(rt, alloc, input, plan, held, gate),
-            Task::Totals(input, plan) => {
-                let totals = totals_of(rt, alloc, input, &plan, held, gate)?;
-                Ok(Text::Whole(totals_rows(alloc, &totals)?))
-            }
-            Task::Encode { hex } => {
-                let mut lines = GroupLines::new(alloc);
-                lines.push(held.as_slice())?;
-                Ok(Text::Groups(lines.finish()?, hex))
-            }
+            Task::Totals(input, plan) => totals_of(rt, alloc, input, &plan, held, gate),
+            Task::Encode { hex } => groups_of(alloc, hex, held),
             Task::Soft(input, plan, margin, has_rows) => {
                 soft_text_of(rt, alloc, &input, &plan, margin, has_rows, held)
             }
@@ -98,6 +91,25 @@ fn input_and_plan<'a>(
     let plan = Plan::of(alloc, settings)?;
     let input = input.clone_in(alloc)?;
     Ok((input, plan))
+}
+
+/// The windows of the recording that the bytes give.
+fn windows_of<'a>(input: Input, workers: Workers, held: Vec<u8>) -> Result<Text<'a>, RdsError>
+    ensures ok { IfOk result (λ text. text_of_task (task.Scan input workers) held.items ≡ Ok (bytes_of text)) }
+    ensures refused { IfErr result (IsMemoryOrErrOf (text_of_task (task.Scan input workers) held.items)) }
+{
+    let recording = recording_of(input, held)?;
+    Ok(Text::Windows(recording, workers))
+}
+
+/// The groups that the lines spell.
+fn groups_of<'a>(alloc: Global, hex: bool, lines: Vec<u8>) -> Result<Text<'a>, RdsError>
+    ensures ok { IfOk result (λ text. text_of_task (task.Encode hex) lines.items ≡ Ok (bytes_of text)) }
+    ensures refused { IfErr result (IsMemoryOrErrOf (text_of_task (task.Encode hex) lines.items)) }
+{
+    let mut groups = GroupLines::new(alloc);
+    groups.push(lines.as_slice())?;
+    Ok(Text::Groups(groups.finish()?, hex))
 }
 
 /// The listing of the recording that the bytes give. One worker decodes it while it is written, unless the gate wants calls.
@@ -125,22 +137,21 @@ fn list_of<'a, R: Threads + Sync, G: Gate + Sync>(
     }))
 }
 
-/// The totals of the recording that the bytes give, which is dropped before their text is made.
-fn totals_of<R: Threads + Sync, G: Gate + Sync>(
+/// The totals of the recording that the bytes give.
+fn totals_of<'a, R: Threads + Sync, G: Gate + Sync>(
     rt: &R,
     alloc: Global,
     input: Input,
     plan: &Plan<'_>,
     held: Vec<u8>,
     gate: &G,
-) -> Result<Totals, RdsError>
-    ensures totals { IfOk result (λ totals. text_of_task (task.Totals input plan.now) held.items
-        ≡ Ok (totals_text totals)) }
-    ensures refused { IfErr result (IsMemoryOrErrOf (cut_recording input plan.now.cuts held.items)) }
+) -> Result<Text<'a>, RdsError>
+    ensures ok { IfOk result (λ text. text_of_task (task.Totals input plan.now) held.items ≡ Ok (bytes_of text)) }
+    ensures refused { IfErr result (IsMemoryOrErrOf (text_of_task (task.Totals input plan.now) held.items)) }
 {
     let recording = recording_of(input, held)?;
     let report = report_by(rt, alloc, plan, &recording, Spans::Whole, gate)?;
-    Ok(report.totals)
+    Ok(Text::Whole(totals_rows(alloc, &report.totals)?))
 }
 
 /// The listing of the symbols that the bytes are, or only its totals.

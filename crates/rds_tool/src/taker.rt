@@ -41,18 +41,14 @@ impl<'t> Taker<'t> for Vec<u8> {
 
     fn take<R: Threads + Sync>(
         &mut self,
-        rt: &R,
-        alloc: Global,
+        _rt: &R,
+        _alloc: Global,
         bytes: &mut [u8],
     ) -> Result<(), AllocError> {
-        let _ = rt;
-        let _ = alloc;
         self.extend_from_slice(bytes)
     }
 
-    fn finish<R: Threads + Sync>(self, rt: &R, alloc: Global) -> Result<Text<'t>, RdsError> {
-        let _ = rt;
-        let _ = alloc;
+    fn finish<R: Threads + Sync>(self, _rt: &R, _alloc: Global) -> Result<Text<'t>, RdsError> {
         Ok(Text::Whole(self))
     }
 }

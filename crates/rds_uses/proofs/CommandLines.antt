@@ -1,5 +1,5 @@
 -- Command lines as `clap` reads them.
-use Rattle.rds_uses.proofs.Names.{Err, IfOk, Job, List, None, Ok, OnOk, Result, Share, Some, [], ap, codes, false, inl, inr, refl, result_ok, sym, ◌∙◌, ◌∷◌, ◌≡◌, ◌⊎◌}
+use Rattle.rds_uses.proofs.Names.{Err, IfOk, Job, List, None, Ok, OnOk, Result, Share, Some, [], ap, codes, false, inl, inr, refl, result_ok, ◌∷◌, ◌≡◌, ◌⊎◌}
 use Rattle.clap.specs.{Faults.defaults_fault, Faults.flags_fault, Faults.walk_fault, Takes.flags_pass, Takes.walk_passes, Walk.bundle_met, Walk.walked, Words.Text, declared.error.kind.ErrorKind.ErrorKind}
 use Rattle.clap.specs.declared.error.kind.ErrorKind.TheVariants as kind
 use Rattle.rds_tool.specs.{CommandLine.HasBadGaps, CommandLine.MayAnswer, CommandLine.asked_by, CommandLine.entries_of, CommandLine.faults_of, CommandLine.job_by, declared.fault.FaultKind.FaultKind, declared.fault.FaultKind.TheVariants.Help, declared.fault.FaultKind.TheVariants.Memory, declared.fault.FaultKind.TheVariants.Version, declared.fault.FaultKind.TheVariants.Words, declared.job.Asked.Asked}

@@ -1,9 +1,9 @@
 -- The outcomes of jobs over the bits of bytes.
-use Rattle.rds_uses.proofs.Names.{BadCutting, Bool, Err, Input, Job, List, ListsEndWithTotals, None, Ok, PlanOf, Result, RuleNumbers, Settings, Signal, Some, RdsError, Writes, WritesPrefix, [], and_then, ap, append-nil, ap₂, arith, cond, crew_of, false, groups_in, length, length_of, list_text, plan_of, refl, result_of_job, result_unwrap_or, rows_so_far, sent_listing, stream_input, subst, sym, text_of_task, true, whole_input, ℕ, ◌*◌, ◌++◌, ◌^◌, ◌∙◌, ◌∷◌, ◌≡◌, ◌≤◌}
+use Rattle.rds_uses.proofs.Names.{Bool, Err, Input, Job, List, ListsEndWithTotals, None, Ok, PlanOf, Result, RuleNumbers, Settings, Signal, Some, RdsError, Writes, WritesPrefix, [], ap, append-nil, ap₂, arith, cond, crew_of, false, groups_in, length, length_of, list_text, plan_of, refl, result_of_job, rows_so_far, sent_listing, stream_input, subst, sym, whole_input, ℕ, ◌*◌, ◌++◌, ◌^◌, ◌∙◌, ◌∷◌, ◌≡◌, ◌≤◌}
 use Rattle.rds_uses.specs.Jobs.{IsListBy, all_bits, plain}
 use Rattle.std.proofs.lemmas.Bool.Decides.{nat_tests}
 use Rattle.rds_tool.proofs.JobLaws.{both, list_of, same-ok}
-use Rattle.rds_tool.specs.{Cuts.cuts_bits, Input.recording_of, Laws.EncodedGroupsAreListed, Rules.rules_of, WellFormed.DifferInGaps, WellFormed.GapsHideBits, WellFormed.IsWellFormed, WellFormed.ListsAreWellFormed, WellFormed.RowsBeginLists}
+use Rattle.rds_tool.specs.{Input.recording_of, Laws.EncodedGroupsAreListed, Rules.rules_of, WellFormed.DifferInGaps, WellFormed.GapsHideBits, WellFormed.IsWellFormed, WellFormed.ListsAreWellFormed, WellFormed.RowsBeginLists}
 use Rattle.rds_tool.specs.declared.job.Job.TheVariants as job
 use Rattle.rds_tool.specs.declared.task.Task.TheVariants as task
 
@@ -15,11 +15,6 @@ pub added : (result_of_job : Result (List ℕ) RdsError) (old new : List ℕ) �
     → (more : List ℕ) × (result_of_job ≡ Ok more) × (new ≡ old ++ more)
 added (Ok text) old new is = (text, refl, is)
 added (Err e) old new is = absurd is
-
--- what an empty writer holds afterwards is the text
-pub written : (result_of_job : Result (List ℕ) RdsError) (new : List ℕ) → Writes (Some []) (Some new) result_of_job → result_of_job ≡ Ok new
-written (Ok text) new is = ap Ok (sym is)
-written (Err e) new is = absurd is
 
 -- a vector that a sink gives back: what it held before the sink was made, and then what the sink took
 module _ (out : List ℕ → Result (List ℕ) RdsError) (given bytes first begun taken last taken' text : List ℕ) (all : given ≡ bytes) (same : begun ≡ first)

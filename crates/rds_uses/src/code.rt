@@ -1,5 +1,5 @@
 //! Facts that a user of `rds_code` relies on: remainders, offsets, bursts, and blocks as they are sent and read.
-ghost use Rattle.std.specs.Prelude.{◌≡◌, ◌≢◌, ℕ, ◌+◌, ◌<◌, ◌^◌, ◌↔◌, ◌⊎◌, ◌∷◌, [], IsTrue, IfOk, None, Some, Contains, bit_xor, codes, slice_index, true};
+ghost use Rattle.std.specs.Prelude.{◌≡◌, ◌≢◌, ℕ, ◌+◌, ◌<◌, ◌≤◌, ◌^◌, ◌↔◌, ◌⊎◌, ◌∷◌, [], IsTrue, IfOk, IfSome, None, Some, Contains, bit_xor, codes, slice_index, true};
 ghost use Rattle.std.specs.Int.{bit_at, Count.ones};
 ghost use Rattle.rds_code.specs.{declared.offset.Offset.Offset as AnOffset, declared.offset.Offset.TheVariants.A, declared.offset.Offset.TheVariants.B, declared.offset.Offset.TheVariants.C, declared.offset.Offset.TheVariants.Cx, declared.offset.Offset.TheVariants.D, declared.reading.Wanted.TheVariants.OnlyCx, declared.reading.Reading.Reading as AReading, declared.reading.Reading.TheVariants.Valid, declared.reading.Reading.TheVariants.Corrected, Remainder.IsRemainder, Remainder.generator, Remainder.rem, Generator.HasPeriod, Generator.IsCandidate, Generator.TellsApart, Generator.parity_rows, Generator.remainder_by, Generator.syndrome, Generator.times_power, Offsets.number, Bursts.IsBurst, Bursts.bursts, Bursts.burst_length, Reading.FitsAlone, Reading.IsReading, Encoding.IsBlockOf, Encoding.third_offset, Correction.version_burst};
 
@@ -62,13 +62,11 @@ pub fn known_by_word(offset: Offset) -> (Option<Offset>, usize, &'static str)
 pub fn number_and_limit() -> Option<(u8, u8)>
     ensures { result ≡ Some (1, 3) }
 {
-    match (BlockNumber::new(5), BurstLimit::new(6)) {
-        (None, None) => {
-            let next = BlockNumber::new(4)?.next();
-            Some((next.get(), BurstLimit::new(3)?.bits()))
-        }
-        _ => None,
+    if BlockNumber::new(5).is_some() || BurstLimit::new(6).is_some() {
+        return None;
     }
+    let next = BlockNumber::new(4)?.next();
+    Some((next.get(), BurstLimit::new(3)?.bits()))
 }
 
 /// A burst leaves a remainder, by which it is told from all others, and is in the list of bursts. Its span, ones and outcome are indices
@@ -90,41 +88,53 @@ pub fn told_apart(one: Burst, other: Burst) -> (bool, [usize; 3])
     (one == other && rem26(pattern) != 0, indices)
 }
 
-/// The table finds each burst by its remainder, within its own span. The burst that it finds has the remainder that was asked for, and the
-/// span. An undamaged block has none.
-pub fn found_again(table: &BurstTable, burst: Burst, limit: BurstLimit, asked: u16) -> Option<Burst>
-    requires { asked < 1024 }
+/// The table finds each burst by its remainder, within its own span.
+pub fn found_again(table: &BurstTable, burst: Burst) -> Option<Burst>
     ensures { result ≡ Some burst }
 {
-    if let Some(found) = table.find(asked, limit) {
-        let is_asked = rem26(found.pattern()) == asked && found.span() <= limit.bits();
-        prove!(is_asked && asked != 0);
-    }
     let limit = BurstLimit::new(u32::from(burst.span()))?;
     table.find(rem26(burst.pattern()), limit)
+}
+
+/// The remainder and the span of a burst that is found are those that were asked for. An undamaged block has none.
+pub fn found_as_asked(table: &BurstTable, limit: BurstLimit, asked: u16) -> Option<(u16, u8)>
+    requires { asked < 1024 }
+    ensures found { IfSome result (λ found. (found.0 ≡ asked) × (found.1 ≤ limit)) }
+    ensures none { asked ≡ 0 → result ≡ None }
+{
+    let found = table.find(asked, limit)?;
+    Some((rem26(found.pattern()), found.span()))
 }
 
 /// A block that is sent is valid, by outcomes for any limit, and no other window is that block. After a block 2 with its version bit set,
 /// only C' is wanted for block 3.
 pub fn sent_and_told(
-    alloc: Global,
-    table: &BurstTable,
-    limit: BurstLimit,
+    outcomes: &Outcomes,
     info: u16,
     offset: Offset,
     wanted: Wanted,
     w: u32,
-) -> Result<(u8, Wanted, bool), RdsError>
-    ensures outcome { IfOk result (λ told. told.0 ≡ 1) }
-    ensures wanted { IfOk result (λ told. offset ≡ B → bit_at info 11 ≡ 1 → told.1 ≡ OnlyCx) }
-    ensures block { IfOk result (λ told. IsTrue told.2 ↔ IsBlockOf w info offset) }
+) -> (u8, Wanted, bool)
+    ensures outcome { result.0 ≡ 1 }
+    ensures wanted { offset ≡ B → bit_at info 11 ≡ 1 → result.1 ≡ OnlyCx }
+    ensures block { IsTrue result.2 ↔ IsBlockOf w info offset }
 {
     laws::blocks_are_read_as_sent();
-    let outcomes = Outcomes::new(alloc, table, limit)?;
-    prove!(outcomes.limit().bits() == limit.bits());
     let sent = encode_block(info, offset);
     let outcome = outcomes.of_block(sent, offset.number(), wanted);
-    Ok((outcome, outcomes.wanted_after(sent), sent == w))
+    (outcome, outcomes.wanted_after(sent), sent == w)
+}
+
+/// Outcomes keep their limit.
+pub fn limit_of_outcomes(
+    alloc: Global,
+    table: &BurstTable,
+    limit: BurstLimit,
+) -> Result<BurstLimit, RdsError>
+    ensures { IfOk result (λ kept. kept ≡ limit) }
+{
+    let outcomes = Outcomes::new(alloc, table, limit)?;
+    Ok(outcomes.limit())
 }
 
 /// Block 1, 2 or 4, sent, damaged by one burst within the limit, and read: the word that was sent, and the burst. Block 3 of version A

@@ -44,11 +44,8 @@ pub fn help_of_list(alloc: Global) -> Result<Asked, CliFault>
 }
 
 /// If memory was refused there is nothing to be shown but that.
-pub fn nothing_to_show(alloc: Global, words: &[&str]) -> bool
-    ensures { result ≡ true }
+pub fn nothing_to_show(alloc: Global, words: &[&str]) -> Result<Asked, CliFault>
+    ensures { IfErr result (λ fault. fault.kind ≡ FaultKind.Memory → string_bytes fault.text ≡ []) }
 {
-    match asked_of(alloc, words) {
-        Ok(_asked) => true,
-        Err(fault) => fault.kind != FaultKind::Memory || fault.text.is_empty(),
-    }
+    asked_of(alloc, words)
 }

@@ -1,8 +1,8 @@
 //! Facts that a user of `rds_crew` relies on: the report of a crew is that of one decoder, and each number that is dealt is drawn once,
 //! by whichever seat.
-ghost use Rattle.std.specs.Prelude.{◌≡◌, ◌<◌, ◌↔◌, ◌⊎◌, IfErr, IfOk, IsErrOf, ◌+◌, ◌≤◌, ◌^◌, All, IfSome, None, Some, length, true};
+ghost use Rattle.std.specs.Prelude.{◌≡◌, ◌<◌, ◌↔◌, ◌⊎◌, IfErr, IfOk, IsErrOf, ◌+◌, ◌≤◌, ◌^◌, All, Err, IfSome, IsOkUnless, None, Some, length, replicate, true};
 ghost use Rattle.rds_stream.specs.Recording.{length_of};
-ghost use Rattle.rds_crew.specs.{declared.deal.Event.TheVariants.Draw, declared.deal.Event.TheVariants.Finish, declared.deal.Event.TheVariants.Progress, Seats.DidWholeRun, Seats.DrewAllOnce, Seats.HasRested, Seats.IsFresh, Seats.IsOf, Seats.seat_after};
+ghost use Rattle.rds_crew.specs.{declared.deal.Event.TheVariants.Draw, declared.deal.Event.TheVariants.Finish, declared.deal.Event.TheVariants.Progress, Seats.DidWholeRun, Seats.DrewAllOnce, Seats.HasRested, Seats.IsOf, Seats.fresh_seat, Seats.seat_after};
 ghost use Rattle.rds_code.specs.declared.error.RdsError.TheVariants.{CrewRange, OutOfMemory};
 ghost use Rattle.rds_pieces.specs.Cutting.{IsCutting};
 ghost use Rattle.rds_sync.specs.{Decoding.listed, Report.report_items, Totals.totals_of};
@@ -34,27 +34,16 @@ pub fn decoded_by_any<R: Threads + Sync>(
     decode_crew(rt, alloc, &work, workers, &OpenGate)
 }
 
-/// A dealer with one seat, which has drawn nothing. One without seats is refused. For 256 nothing but memory can be.
-pub fn with_one_seat(
-    alloc: Global,
-    pieces: u64,
-) -> (Option<(Dealer, Seat)>, Option<RdsError>, Option<RdsError>)
+/// A dealer with 1 to 256 seats, which have drawn nothing. Only memory is refused else.
+pub fn with_seats(alloc: Global, pieces: u64, seats: u32) -> Result<(Dealer, Vec<Seat>), RdsError>
     requires { pieces < 2 ^ 63 }
-    ensures pieces { IfSome result.0 (λ made. made.0.name.pieces ≡ pieces) }
-    ensures seats { IfSome result.0 (λ made. made.0.seats ≡ 1) }
-    ensures seat { IfSome result.0 (λ made. IsFresh made.0 made.1) }
-    ensures none { result.1 ≡ Some CrewRange }
-    ensures all { IfSome result.2 (λ error. error ≡ OutOfMemory) }
+    ensures pieces { IfOk result (λ made. made.0.name.pieces ≡ pieces) }
+    ensures seats { IfOk result (λ made. made.0.seats ≡ seats) }
+    ensures fresh { IfOk result (λ made. made.1.items ≡ replicate seats (fresh_seat made.0)) }
+    ensures none { seats ≡ 0 → result ≡ Err CrewRange }
+    ensures all { seats ≡ 256 → IsOkUnless result OutOfMemory }
 {
-    let none = Dealer::new(alloc, pieces, 0).err();
-    let all = Dealer::new(alloc, pieces, 256).err();
-    match Dealer::new(alloc, pieces, 1) {
-        Ok((dealer, mut seats)) => match seats.pop() {
-            Some(seat) => (Some((dealer, seat)), none, all),
-            None => (None, none, all),
-        },
-        Err(_) => (None, none, all),
-    }
+    Dealer::new(alloc, pieces, seats)
 }
 
 /// A draw of a seat is one event, unless it has ended. The number is then held, and can be finished; a seat that got none has rested.

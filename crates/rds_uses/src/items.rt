@@ -8,28 +8,36 @@ use rds_sync::{Decoder, Group, Item, ItemIter, Items, Rules, State, Totals, laws
 use std::alloc::{AllocError, Global};
 use std::snapshot::Snapshot;
 
-/// The first item, by going over them, any item by its index, once all are collected, and the last.
-pub fn collected_at(
+/// All items, collected.
+pub fn collected(
     alloc: Global,
     items: &Items,
     recording: &Recording,
     rules: &Rules,
-    k: usize,
-) -> Result<(Option<Item>, Option<Item>, Option<Item>), AllocError>
+) -> Result<Vec<Item>, AllocError>
     requires source { items.now.source ≡ recording.now }
     requires rules { items.now.rules ≡ rules.now }
-    ensures first { IfOk result (λ found. found.0 ≡ slice_get items.now.list 0) }
-    ensures any { IfOk result (λ found. found.1 ≡ slice_get items.now.list k) }
-    ensures last { IfOk result (λ found. found.2 ≡ slice_get items.now.list (length items.now.list - 1)) }
+    ensures { IfOk result (λ all. all.items ≡ items.now.list) }
 {
-    let collected = items.to_vec(alloc, recording, rules)?;
+    items.to_vec(alloc, recording, rules)
+}
+
+/// The first item, by going over them, and the last, by its index.
+pub fn first_and_last(
+    items: &Items,
+    recording: &Recording,
+    rules: &Rules,
+) -> (Option<Item>, Option<Item>)
+    requires source { items.now.source ≡ recording.now }
+    requires rules { items.now.rules ≡ rules.now }
+    ensures first { result.0 ≡ slice_get items.now.list 0 }
+    ensures last { result.1 ≡ slice_get items.now.list (length items.now.list - 1) }
+{
     let first = items.iter(recording, rules).next();
-    let last = if items.is_empty() {
-        None
-    } else {
-        items.get(recording, rules, items.len() - 1)
-    };
-    Ok((first, collected.get(k).copied(), last))
+    if items.is_empty() {
+        return (first, None);
+    }
+    (first, items.get(recording, rules, items.len() - 1))
 }
 
 /// The list of a recording by rules, as long as it has no item.
@@ -54,7 +62,7 @@ pub fn appended_or_same(items: &mut Items, other: Items, first: usize) -> bool
     }
 }
 
-/// Items in a row, by a list and by its index, are those of the list.
+/// Items in a row, by an index, or without one if there is no memory for it, are those of the list.
 pub fn range_by_index<'a>(
     alloc: Global,
     recording: &'a Recording,
@@ -62,17 +70,17 @@ pub fn range_by_index<'a>(
     items: &'a Items,
     from: usize,
     to: usize,
-) -> Result<(ItemIter<'a>, ItemIter<'a>), AllocError>
+) -> ItemIter<'a>
     requires source { items.now.source ≡ recording.now }
     requires rules { items.now.rules ≡ rules.now }
     requires order { from ≤ to }
     requires within { to ≤ length items.now.list }
-    ensures listed { IfOk result (λ both. both.0 ≡ slice_range items.now.list from to) }
-    ensures indexed { IfOk result (λ both. both.1 ≡ slice_range items.now.list from to) }
+    ensures { result ≡ slice_range items.now.list from to }
 {
-    let indexed = items.indexed(alloc)?;
-    let by_index = indexed.range(recording, rules, from, to);
-    Ok((items.range(recording, rules, from, to), by_index))
+    match items.indexed(alloc) {
+        Ok(indexed) => indexed.range(recording, rules, from, to),
+        Err(_) => items.range(recording, rules, from, to),
+    }
 }
 
 /// A span of a run has its items; if there is no memory for the span, the list stays as it was.

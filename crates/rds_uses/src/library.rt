@@ -3,12 +3,12 @@ ghost use Rattle.std.specs.Prelude.{◌≡◌, ◌≢◌, ◌++◌, ◌+◌, ◌
 ghost use Rattle.rds_code.specs.Remainder.{rem};
 ghost use Rattle.rds_sync.specs.{Report.report_items, Totals.totals_of};
 ghost use Rattle.rds_live.specs.StreamDecoder.{report_of};
-ghost use Rattle.rds_abi.specs.{Asked.asked, Asked.items_asked, Asked.recording_of, Asked.rules_of, Blocks.packed, Stream.AreCompleted, Stream.AreLeft, Stream.AreTotalsAt, Stream.AreWritten, Stream.HearsOn, Stream.IsLaid, Stream.terms_of, Layout.item_in_c, Layout.totals_in_c};
+ghost use Rattle.rds_abi.specs.{Asked.Refuses, Asked.asked, Asked.items_asked, Asked.recording_of, Asked.rules_of, Blocks.packed, Stream.AreCompleted, Stream.AreLeft, Stream.AreTotalsAt, Stream.AreWritten, Stream.HearsOn, Stream.IsLaid, Stream.terms_of, Layout.item_in_c, Layout.totals_in_c};
 
 use rds_abi::{
     RdsGap, RdsItem, RdsPacked, RdsRules, RdsSoft, RdsState, RdsStream, RdsTotals, RdsWords,
-    Refusal, encode, finish, finish_run, finish_with, items, push, push_soft, remainder, run,
-    totals,
+    Refusal, check, encode, finish, finish_run, finish_with, items, push, push_soft, remainder,
+    run, totals,
 };
 use rds_sync::laws;
 use std::alloc::Global;
@@ -162,7 +162,7 @@ pub fn group_in_bytes(words: RdsWords, room: &mut [RdsPacked], word: u32) -> (bo
     (encode(&[words], room).is_ok(), remainder(word).ok())
 }
 
-/// How many groups a recording has: those of its report. Two calls for one recording that are both refused have the same reason, unless
+/// How many groups a recording has: those of its report. A second call that is refused, as the first was, has the same reason, unless
 /// memory was refused.
 pub fn refused_alike(
     alloc: Global,
@@ -170,39 +170,42 @@ pub fn refused_alike(
     bits: u64,
     gaps: &[RdsGap],
     rules: RdsRules,
-) -> Result<u64, (Refusal, Refusal)>
+    reason: Refusal,
+) -> Result<u64, Refusal>
+    requires { Refuses (asked bytes.now bits gaps.now rules) reason }
     ensures groups { IfOk result
         (λ groups. groups ≡ (totals_of (report_items (recording_of bytes.now bits gaps.now) (rules_of rules))).groups) }
-    ensures alike { IfErr result (λ reasons. (reasons.0 ≡ Refusal.OutOfMemory) ⊎ (reasons.1 ≡ Refusal.OutOfMemory) ⊎ (reasons.0 ≡ reasons.1)) }
+    ensures alike { IfErr result (λ again. (reason ≡ Refusal.OutOfMemory) ⊎ (again ≡ Refusal.OutOfMemory) ⊎ (reason ≡ again)) }
 {
     rds_abi::laws::reasons_exclude_each_other();
-    let first = totals(alloc, bytes, bits, gaps, rules);
-    let again = totals(alloc, bytes, bits, gaps, rules);
-    match (first, again) {
-        (Err(first), Err(again)) => Err((first, again)),
-        (Ok(found), _) => Ok(found.groups),
-        (_, Ok(found)) => Ok(found.groups),
-    }
+    let again = totals(alloc, bytes, bits, gaps, rules)?;
+    Ok(again.groups)
 }
 
-/// Numbers that no call leaves are refused: of a search that waits for a block, and of a stream that searches and has a first block.
-pub fn search_that_waits(alloc: Global, bytes: &[u8], rules: RdsRules, number: u32) -> (bool, bool)
-    requires { number ≢ 0 }
-    ensures { result ≡ (false, false) }
+/// Numbers that no call leaves are refused: of a search that waits for a block.
+pub fn search_that_waits(alloc: Global, bytes: &[u8], rules: RdsRules, due: u64) -> bool
+    requires { due ≢ 0 }
+    ensures { result ≡ false }
 {
     let waits = RdsState {
-        due: u64::from(number),
+        due,
+        ..RdsState::SEARCHING
+    };
+    finish_run(alloc, bytes, 0, &[], rules, waits, &mut [], &mut 0).is_ok()
+}
+
+/// So are those of a stream that searches and has a first block.
+pub fn search_with_a_block(alloc: Global, rules: RdsRules, first: u32) -> bool
+    requires { first ≢ 0 }
+    ensures { result ≡ false }
+{
+    let state = RdsState {
+        first,
         ..RdsState::SEARCHING
     };
     let stream = RdsStream {
-        state: RdsState {
-            first: number,
-            ..RdsState::SEARCHING
-        },
+        state,
         ..RdsStream::UNHEARD
     };
-    let (mut n, mut totals) = (0, RdsTotals::NONE);
-    let run = finish_run(alloc, bytes, 0, &[], rules, waits, &mut [], &mut n);
-    let end = finish(alloc, &[], rules, &stream, &mut [], &mut n, &mut totals);
-    (run.is_ok(), end.is_ok())
+    check(alloc, &[], rules, &stream).is_ok()
 }

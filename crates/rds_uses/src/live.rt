@@ -10,7 +10,7 @@ use rds_live::{
 };
 use rds_stream::Recording;
 use rds_sync::{Item, Rules, State, Totals};
-use std::alloc::Global;
+use std::alloc::{AllocError, Global};
 use std::thread::Threads;
 
 /// A decoder of a stream, which has heard nothing yet. Its gaps are refused exactly if no recording may have them, and without gaps only
@@ -135,38 +135,40 @@ pub fn ended_inside(
     live.finish_with(last, bits, items)
 }
 
-/// The totals of a stream that comes in two chunks are its report's, by any number of workers.
-pub fn counted_in_two<R: Threads + Sync>(
-    rt: &R,
+/// A decoder that counts from here on, by any number of workers.
+pub fn counter_of<'r>(
     alloc: Global,
-    rules: &Rules,
-    gaps: &[(u64, u64)],
-    first: &[u8],
-    second: &[u8],
+    live: StreamDecoder<'r>,
     workers: u32,
-) -> Result<Totals, RdsError>
-    ensures { IfOk result (λ totals. totals ≡ totals_of (report_of
-        (record { rules = rules.now; gaps = gaps.now }) (first.now ++ second.now))) }
+) -> Result<StreamCounter<'r>, AllocError>
+    ensures { IfOk result (λ counter. counter ≡ live.entry) }
 {
-    let live = StreamDecoder::with_gaps(alloc, rules, gaps)?;
-    let mut counter = StreamCounter::new(alloc, live, workers)?;
-    counter.count(rt, alloc, first)?;
-    counter.count(rt, alloc, second)?;
-    Ok(counter.into_decoder(rt, alloc).finish().totals)
+    StreamCounter::new(alloc, live, workers)
 }
 
-/// A chunk past 2^36 bits is refused as such, and was not heard.
-pub fn refused_chunk<R: Threads + Sync>(
+/// It hears further bytes. A chunk past 2^36 bits is refused as such, and was not heard.
+pub fn counted<R: Threads + Sync>(
     rt: &R,
     alloc: Global,
     counter: &mut StreamCounter<'_>,
     bytes: &[u8],
 ) -> Result<(), RdsError>
-    requires { 2 ^ 36 < counter.old.place + 8 * length bytes.now }
-    ensures refused { result ≡ Err RdsError.TooLong }
-    ensures same { counter.new ≡ counter.old }
+    ensures heard { OnOk result ((before : List ℕ) → HasHeard counter.old before → HasHeard counter.new (before ++ bytes.now)) }
+    ensures terms { counter.new.terms ≡ counter.old.terms }
+    ensures refused { 2 ^ 36 < counter.old.place + 8 * length bytes.now → (result ≡ Err RdsError.TooLong) × (counter.new ≡ counter.old) }
 {
     counter.count(rt, alloc, bytes)
+}
+
+/// Its totals are those of the report of all bytes that it heard.
+pub fn totals_counted<R: Threads + Sync>(
+    rt: &R,
+    alloc: Global,
+    counter: StreamCounter<'_>,
+) -> Totals
+    ensures { (heard : List ℕ) → HasHeard counter.entry heard → result ≡ totals_of (report_of counter.entry.terms heard) }
+{
+    counter.into_decoder(rt, alloc).finish().totals
 }
 
 /// A part that begins with the stream is gone over as a recording of its own, from a search on. After a search no group is in progress, and

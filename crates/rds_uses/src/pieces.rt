@@ -2,14 +2,14 @@
 ghost use Rattle.std.specs.Prelude.{◌≡◌, ℕ, ◌+◌, ◌-◌, ◌*◌, ◌<◌, ◌≤◌, ◌^◌, ◌∷◌, [], Err, IfOk, IsOkUnless, Ok, Option, Some};
 ghost use Rattle.rds_stream.specs.Recording.{length_of};
 ghost use Rattle.rds_sync.specs.{declared.state.State.TheVariants.Searching, declared.loss.Loss.TheVariants.Run, Convergence.IsSound, Decoding.listed, Lawful.IsLawful, Report.report_items, Step.run as run_of, Totals.totals_of};
-ghost use Rattle.rds_pieces.specs.{Cutting.IsCutting, Cutting.pieces_of, Guess.guess, Marks.marks_of, Joining.AreNeighbours, Joining.IsJoin, Meeting.IsMeeting, Meeting.distance, RunOf.FollowEachOther, RunOf.run_over, RunOf.runs_of, Seams.IsSumOfReads};
+ghost use Rattle.rds_pieces.specs.{Cutting.IsCutting, Cutting.pieces_of, Marks.marks_of, Joining.AreNeighbours, Joining.IsJoin, Meeting.IsMeeting, Meeting.distance, RunOf.FollowEachOther, RunOf.run_at, RunOf.run_over, RunOf.runs_of, Seams.IsSumOfReads};
 ghost use Rattle.rds_code.specs.declared.error.RdsError.TheVariants.{BadCutting, OutOfMemory};
 
 use rds_code::RdsError;
-use rds_pieces::{Cutting, Mark, PieceRun, Seam, Work, join_runs, laws, seam, speculate, stitch};
+use rds_pieces::{Cutting, Marks, PieceRun, Seam, Work, join_runs, laws, seam, speculate, stitch};
 use rds_stream::{Counted, Recording, Tape};
 use rds_sync::{Decoder, ItemIter, Items, Loss, Report, Rules, State, Totals};
-use std::alloc::{AllocError, Global};
+use std::alloc::Global;
 use std::slice;
 use std::snapshot::Snapshot;
 
@@ -52,28 +52,47 @@ pub fn bits_beyond_pieces(recording: &Recording, cutting: &Cutting) -> u64
     recording.len() - cutting.pieces()
 }
 
-/// A guess has the items, the end and the marks of the run from Searching over its range. Its list names its recording and rules, and its
-/// totals are those of its items.
-pub fn guessed_as_run<'a>(
+/// The guess of a piece is the run from Searching over its range.
+pub fn guess_of_piece(
     alloc: Global,
+    recording: &Recording,
+    rules: &Rules,
+    cutting: &Cutting,
+    j: u64,
+) -> Result<PieceRun, RdsError>
+    requires cutting { IsCutting (length_of recording.now) cutting.now }
+    requires piece { j < pieces_of cutting.now }
+    ensures guess { IfOk result (λ run. run ≡ run_at recording.now rules.now cutting.now j) }
+    ensures refused { IsOkUnless result OutOfMemory }
+{
+    speculate(alloc, recording, rules, cutting, j)
+}
+
+/// A guess has the items and the end of that run. Its list names its recording and rules, and its totals are those of its items.
+pub fn guessed_as_run<'a>(
     recording: &'a Recording,
     rules: &'a Rules,
     run: &'a PieceRun,
-) -> Result<(ItemIter<'a>, Vec<Mark>, &'a Items, Totals), AllocError>
+) -> (ItemIter<'a>, &'a Items, Totals)
     requires source { run.now.source ≡ recording.now }
     requires rules { run.now.rules ≡ rules.now }
-    ensures items { IfOk result (λ guess. guess.0 ≡ (run_of recording.now rules.now Searching run.now.from (run.now.to - run.now.from)).1) }
-    ensures marks { IfOk result (λ guess. guess.1.items
-        ≡ marks_of recording.now rules.now Searching run.now.from (run.now.to - run.now.from)) }
-    ensures list { IfOk result (λ guess. guess.2.now ≡ listed run.now.source run.now.rules guess.0) }
-    ensures totals { IfOk result (λ guess. guess.3 ≡ totals_of guess.0) }
+    ensures items { result.0 ≡ (run_of recording.now rules.now Searching run.now.from (run.now.to - run.now.from)).1 }
+    ensures list { result.1.now ≡ listed run.now.source run.now.rules result.0 }
+    ensures totals { result.2 ≡ totals_of (run_of run.now.source run.now.rules Searching run.now.from (run.now.to - run.now.from)).1 }
 {
     let decoder = Decoder::new(recording, rules, State::Searching, run.from(), run.to());
     let is_same = decoder.end_state() == run.end_state();
     prove!(is_same);
-    let marks = run.marks(recording, rules).collect(alloc)?;
-    let items = run.items(recording, rules);
-    Ok((items, marks, run.list(), run.totals()))
+    (run.items(recording, rules), run.list(), run.totals())
+}
+
+/// It has the marks of that run.
+pub fn marks_of_guess<'a>(recording: &'a Recording, rules: &'a Rules, run: &PieceRun) -> Marks<'a>
+    requires source { run.now.source ≡ recording.now }
+    requires rules { run.now.rules ≡ rules.now }
+    ensures { result ≡ marks_of run.now.source run.now.rules Searching run.now.from (run.now.to - run.now.from) }
+{
+    run.marks(recording, rules)
 }
 
 /// A seam is the run from the state handed in, and tells where it first meets the guess. It reads as many windows as the bits to there
@@ -106,8 +125,7 @@ pub fn run_and_cost_of_seam<T: Tape>(
     ensures reads_most { T.reads_made tape.new ≤ T.reads_made tape.old + (rules.now.reach + 2) * (run.now.to - run.now.from + 1) }
     ensures same { T.signal tape.new ≡ T.signal tape.old }
 {
-    let seam = seam(alloc, tape, rules, state, run)?;
-    Ok(seam)
+    seam(alloc, tape, rules, state, run)
 }
 
 /// Two neighbours joined are the guess of both ranges, at the cost of their seam.
@@ -127,39 +145,22 @@ pub fn cost_of_join<T: Tape>(
     join_runs(alloc, tape, rules, left, right)
 }
 
-/// The report of a recording in the pieces of a cutting.
+/// The report of a recording, of the guesses of all pieces of a cutting.
 pub fn stitch_pieces(
     alloc: Global,
     recording: &Recording,
     rules: &Rules,
     cutting: &Cutting,
+    runs: &[PieceRun],
 ) -> Result<Report, RdsError>
-    requires { IsCutting (length_of recording.now) cutting.now }
+    requires cutting { IsCutting (length_of recording.now) cutting.now }
+    requires guesses { runs.now ≡ runs_of recording.now rules.now cutting.now }
     ensures items { IfOk result (λ report. report.items ≡ listed recording.now rules.now (report_items recording.now rules.now)) }
     ensures totals { IfOk result (λ report. report.totals ≡ totals_of (report_items recording.now rules.now)) }
     ensures refused { IsOkUnless result OutOfMemory }
 {
-    let runs = guesses(alloc, recording, rules, cutting)?;
     laws::pieces_follow();
-    stitch(alloc, &mut Counted::new(recording), rules, runs.as_slice())
-}
-
-/// The guesses of all pieces, in order.
-fn guesses(
-    alloc: Global,
-    recording: &Recording,
-    rules: &Rules,
-    cutting: &Cutting,
-) -> Result<Vec<PieceRun>, RdsError>
-    requires { IsCutting (length_of recording.now) cutting.now }
-    ensures runs { IfOk result (λ runs. runs.items ≡ runs_of recording.now rules.now cutting.now) }
-    ensures refused { IsOkUnless result OutOfMemory }
-{
-    let mut runs = Vec::new(alloc);
-    for j in 0..cutting.pieces() {
-        runs.push(speculate(alloc, recording, rules, cutting, j)?)?;
-    }
-    Ok(runs)
+    stitch(alloc, &mut Counted::new(recording), rules, runs)
 }
 
 /// To stitch runs in a row costs the windows of their seams and three more, without memory too; the tape is of the same bits.
@@ -180,31 +181,43 @@ pub fn cost_of_report<T: Tape>(
     stitch(alloc, tape, rules, runs)
 }
 
-/// The report of a work that is cut into two pieces, by its join of their guesses: that of the recording and the rules that it names, and
-/// the recording and the rule of loss, as a caller sees them.
+/// The guess of a piece of a work.
+pub fn guess_of_work<W: Work>(alloc: Global, work: &W, j: u64) -> Result<PieceRun, RdsError>
+    requires fits { IsCutting (length_of (W.recording work.now)) (W.places work.now) }
+    requires piece { j < pieces_of (W.places work.now) }
+    ensures guess { IfOk result (λ run. run ≡ run_at (W.recording work.now) (W.rule_set work.now) (W.places work.now) j) }
+    ensures refused { IsOkUnless result OutOfMemory }
+{
+    work.guess(alloc, j)
+}
+
+/// The recording, the rule of loss and the number of pieces that a work names.
+pub fn named_by_work<W: Work>(work: &W) -> (Snapshot<Recording>, Loss, u64)
+    ensures source { result.0.value ≡ W.recording work.now }
+    ensures loss { result.1 ≡ (W.rule_set work.now).loss }
+    ensures pieces { result.2 ≡ pieces_of (W.places work.now) }
+{
+    (work.source(), work.rules().loss(), work.cutting().pieces())
+}
+
+/// The report of a work that is cut into two pieces, by its join of their guesses: that of the recording and the rules that it names.
 pub fn report_of_work<W: Work>(
     alloc: Global,
     work: &W,
-) -> Result<(Report, Snapshot<Recording>, Loss), RdsError>
+    left: &PieceRun,
+    right: &PieceRun,
+) -> Result<Report, RdsError>
     requires fits { IsCutting (length_of (W.recording work.now)) (W.places work.now) }
     requires two { pieces_of (W.places work.now) ≡ 2 }
-    ensures items { IfOk result (λ told. told.0.items ≡ listed (W.recording work.now) (W.rule_set work.now)
+    requires left { left.now ≡ run_at (W.recording work.now) (W.rule_set work.now) (W.places work.now) 0 }
+    requires right { right.now ≡ run_at (W.recording work.now) (W.rule_set work.now) (W.places work.now) 1 }
+    ensures items { IfOk result (λ report. report.items ≡ listed (W.recording work.now) (W.rule_set work.now)
         (report_items (W.recording work.now) (W.rule_set work.now))) }
-    ensures totals { IfOk result (λ told. told.0.totals ≡ totals_of (report_items (W.recording work.now) (W.rule_set work.now))) }
-    ensures source { IfOk result (λ told. told.1.value ≡ W.recording work.now) }
-    ensures loss { IfOk result (λ told. told.2 ≡ (W.rule_set work.now).loss) }
+    ensures totals { IfOk result (λ report. report.totals ≡ totals_of (report_items (W.recording work.now) (W.rule_set work.now))) }
     ensures refused { IsOkUnless result OutOfMemory }
 {
     laws::pieces_follow();
     laws::joined_runs_follow();
-    let is_cut = work.cutting().pieces() == 2;
-    prove!(is_cut);
-    match (work.guess(alloc, 0), work.guess(alloc, 1)) {
-        (Ok(left), Ok(right)) => {
-            let run = work.join(alloc, &left, &right)?;
-            let report = work.report(alloc, slice::from_ref(&run))?;
-            Ok((report, work.source(), work.rules().loss()))
-        }
-        _ => Err(RdsError::OutOfMemory),
-    }
+    let run = work.join(alloc, left, right)?;
+    work.report(alloc, slice::from_ref(&run))
 }

@@ -1,5 +1,5 @@
 //! Tests that the maker of a receiver would write: encode groups, damage them, decode them. They come out as they were sent.
-ghost use Rattle.std.specs.Prelude.{◌≡◌, ◌≢◌, ◌↔◌, ℕ, ◌+◌, ◌-◌, ◌*◌, ◌<◌, ◌≤◌, ◌^◌, ◌∷◌, ◌++◌, [], Bool, Contains, IfOk, IfSome, IsOkUnless, IsTrue, List, Ok, OnOk, Some, flat_map, length, slice_index, true};
+ghost use Rattle.std.specs.Prelude.{◌≡◌, ◌≢◌, ◌↔◌, ℕ, ◌+◌, ◌-◌, ◌*◌, ◌<◌, ◌≤◌, ◌^◌, ◌∷◌, ◌++◌, [], Bool, Contains, IfOk, IfSome, IsOkUnless, IsTrue, List, Ok, Some, flat_map, length, slice_index, true};
 ghost use Rattle.std.specs.Int.Count.{ones};
 ghost use Rattle.rds_code.specs.{declared.offset.Offset.Offset as AnOffset, declared.offset.Offset.TheVariants.A, declared.offset.Offset.TheVariants.D, Bursts.IsBurst, Detection.error_masks, Detection.miscorrections, Detection.remainders_near, Encoding.encoded, Offsets.number, Reading.information, Remainder.rem, declared.error.RdsError.TheVariants.OutOfMemory};
 ghost use Rattle.rds_stream.specs.Recording.{length_of, ungapped};
@@ -15,8 +15,8 @@ use rds_code::{
 };
 use rds_stream::Recording;
 use rds_sync::{Group, Item, Report, Rules, State, decode_plain, laws, run};
-use rds_tool::{FromRead, Job, ToWrite, follow, laws as tool_laws};
-use std::alloc::{AllocError, Global};
+use rds_tool::{Job, laws as tool_laws};
+use std::alloc::Global;
 use std::thread::Threads;
 
 /// The offset of a block that was damaged: not one of its own number after one or two bit errors, and not its own if they span up to ten
@@ -90,8 +90,8 @@ pub fn words_of_damaged(
     [one.info(), two.info(), three.info(), four.info()]
 }
 
-/// The 13 bytes of a group, the first bit highest.
-fn pack_group(words: [u16; 4]) -> [u8; 13]
+/// The 13 bytes of a group, the first bit highest. Those of several groups, one after the other, are packed groups.
+pub fn pack_group(words: [u16; 4]) -> [u8; 13]
     ensures bytes { result ≡ packed_group words }
     ensures words { (y : ℕ) → y < 4 → slice_index words y < 2 ^ 16 }
 {
@@ -104,43 +104,34 @@ fn pack_group(words: [u16; 4]) -> [u8; 13]
     bytes
 }
 
-/// The bytes of groups that are sent one after the other.
-fn packed_groups(alloc: Global, groups: &[[u16; 4]]) -> Result<Vec<u8>, AllocError>
-    ensures bytes { IfOk result (λ bytes. bytes.items ≡ the_packed_groups groups.now) }
-    ensures words { OnOk result (AreWords groups.now) }
-{
-    let mut bytes = Vec::new(alloc);
-    for group in groups {
-        bytes.extend_from_slice(&pack_group(*group))?;
-    }
-    Ok(bytes)
-}
-
 /// A recording of packed groups has the bits of these groups.
-pub fn recording_of_groups(alloc: Global, groups: &[[u16; 4]]) -> Option<Recording>
-    requires { 104 * length groups.now ≤ 2 ^ 36 }
+pub fn recording_of_groups(bytes: Vec<u8>, groups: &[[u16; 4]]) -> Option<Recording>
+    requires few { 104 * length groups.now ≤ 2 ^ 36 }
+    requires packed { bytes.items ≡ the_packed_groups groups.now }
+    requires words { AreWords groups.now }
     ensures bits { IfSome result (λ recording. recording ≡ ungapped (bits_sent groups.now)) }
-    ensures words { IfSome result (λ _. AreWords groups.now) }
 {
     laws::packed_groups_are_sent();
-    let bytes = packed_groups(alloc, groups).ok()?;
     let bits = 8 * bytes.len() as u64;
     Recording::from_bytes(bytes, bits).ok()
 }
 
 /// Groups that are encoded and decoded are listed as they were sent, and counted, by all rules.
-pub fn encoded_and_decoded(alloc: Global, groups: &[[u16; 4]], rules: &Rules) -> Option<Report>
+pub fn encoded_and_decoded(
+    alloc: Global,
+    recording: &Recording,
+    groups: &[[u16; 4]],
+    rules: &Rules,
+) -> Result<Report, RdsError>
     requires some { 0 < length groups.now }
-    requires few { 104 * length groups.now ≤ 2 ^ 36 }
-    ensures { IfSome result (λ report. (report.items.list ≡ report_sent groups.now) × (report.totals ≡ totals_sent (length groups.now))) }
+    requires bits { recording.now ≡ ungapped (bits_sent groups.now) }
+    requires words { AreWords groups.now }
+    ensures items { IfOk result (λ report. report.items.list ≡ report_sent groups.now) }
+    ensures totals { IfOk result (λ report. report.totals ≡ totals_sent (length groups.now)) }
 {
     let _loss = rules.loss();
     laws::encoded_groups_are_listed();
-    let recording = recording_of_groups(alloc, groups)?;
-    match decode_plain(alloc, &recording, rules) {
-        Ok(report) => Some(report),
-        Err(_) => None,
-    }
+    decode_plain(alloc, recording, rules)
 }
 
 /// The last block of a group has offset D wherever the bits of the group are in a recording.
@@ -260,7 +251,7 @@ pub fn encoded_and_listed<R: Threads + Sync>(
     written(rt, alloc, bytes.as_slice(), list)
 }
 
-/// Following a stream writes the same text as listing its bytes by the same rules, by any numbers of workers.
+/// Listing the bytes of a stream that was followed by the same rules writes the same text, by any numbers of workers.
 pub fn followed_and_listed<R: Threads + Sync>(
     rt: &R,
     alloc: Global,
@@ -268,41 +259,13 @@ pub fn followed_and_listed<R: Threads + Sync>(
     rules: &Rules,
     gaps: &[(u64, u64)],
     bits: Option<u64>,
-    workers: u32,
+    rows: &[u8],
     list: &Job,
-) -> Option<(Vec<u8>, Vec<u8>)>
-    requires { IsListOfStream list.now rules.now bits gaps.now }
-    ensures { IfSome result (λ both. both.0.items ≡ both.1.items) }
+) -> Option<Vec<u8>>
+    requires list { IsListOfStream list.now rules.now bits gaps.now }
+    requires followed { listed (record { rules = rules.now; gaps = gaps.now }) bits bytes.now ≡ Ok rows.now }
+    ensures { IfSome result (λ text. text.items ≡ rows.now) }
 {
     tool_laws::streams_are_listed();
-    let rows = follow_rows(rt, alloc, bytes, rules, gaps, bits, workers)?;
-    Some((rows, written(rt, alloc, bytes, list)?))
-}
-
-/// The text that following a stream writes.
-fn follow_rows<R: Threads + Sync>(
-    rt: &R,
-    alloc: Global,
-    bytes: &[u8],
-    rules: &Rules,
-    gaps: &[(u64, u64)],
-    bits: Option<u64>,
-    workers: u32,
-) -> Option<Vec<u8>>
-    ensures { IfSome result (λ text. listed (record { rules = rules.now; gaps = gaps.now }) bits bytes.now ≡ Ok text.items) }
-{
-    let mut writer = ToWrite::new(Vec::new(alloc));
-    match follow(
-        rt,
-        alloc,
-        &mut FromRead::new(bytes),
-        &mut writer,
-        rules,
-        bits,
-        gaps,
-        workers,
-    ) {
-        Ok(()) => Some(writer.into_inner()),
-        Err(_) => None,
-    }
+    written(rt, alloc, bytes, list)
 }

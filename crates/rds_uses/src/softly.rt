@@ -1,6 +1,6 @@
 //! Facts about soft decisions that a user of `rds_soft` relies on: which block is nearest, how symbols are read, and what a
 //! report read again keeps.
-ghost use Rattle.std.specs.Prelude.{◌≡◌, ◌≢◌, ℕ, ◌+◌, ◌-◌, ◌*◌, ◌<◌, ◌≤◌, ◌^◌, ◌++◌, None, Some, IfOk, IfSome, slice_index, IsTrue, ◌∷◌, List, [], drop, length, take, OnOk};
+ghost use Rattle.std.specs.Prelude.{◌≡◌, ◌≢◌, ℕ, ◌+◌, ◌-◌, ◌*◌, ◌<◌, ◌≤◌, ◌^◌, ◌++◌, None, Some, IfOk, IfSome, slice_index, IsTrue, ◌∷◌, List, [], drop, length, take, IsOkUnless, OnOk};
 ghost use Rattle.rds_code.specs.{declared.offset.Offset.Offset as AnOffset, Offsets.number as number_of, Offsets.word, Remainder.rem, Reading.IsValid, Reading.allows, Reading.information, declared.reading.Wanted.Wanted as WantedHard};
 ghost use Rattle.rds_soft.specs.{Nearest.Turns, Nearest.top, Nearest.weight, Symbols.hard_bit, Symbols.hard_bits, Symbols.hard_window, Symbols.IsSoftReading, declared.soft_item.SoftBlock.TheVariants.Read as SoftRead, declared.soft_item.SoftItem.SoftItem as AnItem, ReadAgain.block_again, ReadAgain.item_again, ReadAgain.reading_heard, ReadAgain.soft_reading, ReadAgain.symbols_heard, ReadAgain.symbols_of, SoftLists.item_of, SoftStream.complete, SoftStream.report_of, SoftTotals.soft_totals_of};
 ghost use Rattle.rds_stream.specs.Recording.{AreGaps, length_of, reading_at};
@@ -156,22 +156,19 @@ pub fn totals_of_two(one: &SoftItem, other: &SoftItem) -> SoftTotals
     SoftTotals::of_item(one).plus(SoftTotals::of_item(other))
 }
 
-/// Items of two reads, one after the other, are those that both complete. What comes later changes none of them. More symbols than a stream
-/// may have are not heard.
-pub fn of_two_reads<R: Threads + Sync>(
+/// The items of one more read follow those of the reads before, and change none of them. More symbols than a stream may have are not heard.
+pub fn of_one_more_read<R: Threads + Sync>(
     stream: &mut SoftStream<'_>,
     rt: &R,
     alloc: Global,
-    first: &[u8],
-    second: &[u8],
-) -> Result<(SoftList, SoftList), RdsError>
-    ensures items { IfOk result (λ items. complete stream.old.terms (stream.old.symbols ++ first.now ++ second.now)
-        ≡ complete stream.old.terms stream.old.symbols ++ items.0 ++ items.1) }
-    ensures too_many { 2 ^ 36 + 1 < length stream.old.symbols + length first.now → OnOk result ⊥ × (stream.new ≡ stream.old) }
+    symbols: &[u8],
+) -> Result<SoftList, RdsError>
+    ensures heard { OnOk result ((stream.new.symbols ≡ stream.old.symbols ++ symbols.now) × (stream.new.terms ≡ stream.old.terms)) }
+    ensures items { IfOk result (λ items. complete stream.old.terms (stream.old.symbols ++ symbols.now)
+        ≡ complete stream.old.terms stream.old.symbols ++ items) }
+    ensures too_many { 2 ^ 36 + 1 < length stream.old.symbols + length symbols.now → OnOk result ⊥ × (stream.new ≡ stream.old) }
 {
-    let one = stream.take(rt, alloc, first)?;
-    let other = stream.take(rt, alloc, second)?;
-    Ok((one, other))
+    stream.take(rt, alloc, symbols)
 }
 
 /// The first item of a list that is appended follows the items before.
@@ -188,25 +185,32 @@ pub fn first_appended(list: &mut SoftList, more: &SoftList) -> Result<Option<Lis
     Ok(Some(list.get(count)))
 }
 
-/// The totals of a stream of these symbols are those of its report, read again. It gives `None` if a gap ends after its last bit.
-pub fn totals_of_stream<R: Threads + Sync>(
-    rt: &R,
+/// A stream of symbols that has heard none. Only memory is refused, if a recording may have the gaps.
+pub fn begun<'r>(
     alloc: Global,
-    rules: &Rules,
-    gaps: &[(u64, u64)],
+    rules: &'r Rules,
+    gaps: &'r [(u64, u64)],
     margin: Margin,
     workers: u32,
-    symbols: &[u8],
-) -> Result<Option<SoftTotals>, RdsError>
-    ensures totals { IfOk result (λ totals. IfSome totals (λ totals. totals
-        ≡ soft_totals_of (report_of (record { rules = rules.now; gaps = gaps.now; margin = margin }) symbols.now))) }
-    ensures none { IfOk result (λ totals. totals ≡ None → AreGaps (length symbols.now - 1) gaps.now → ⊥) }
+) -> Result<SoftStream<'r>, RdsError>
+    ensures begun { IfOk result (λ stream. (stream.terms ≡ record { rules = rules.now; gaps = gaps.now; margin = margin })
+        × (stream.symbols ≡ [])) }
+    ensures refused { AreGaps (2 ^ 36) gaps.now → IsOkUnless result RdsError.OutOfMemory }
 {
-    let mut stream = SoftStream::new(alloc, rules, gaps, margin, workers)?;
-    stream.take(rt, alloc, symbols)?;
+    SoftStream::new(alloc, rules, gaps, margin, workers)
+}
+
+/// The totals of a stream are those of its report, read again. It gives `None` if a gap ends after its last bit.
+pub fn totals_at_end(
+    alloc: Global,
+    stream: SoftStream<'_>,
+) -> Result<Option<SoftTotals>, AllocError>
+    ensures totals { IfOk result (λ totals. IfSome totals (λ totals. totals
+        ≡ soft_totals_of (report_of stream.entry.terms stream.entry.symbols))) }
+    ensures none { IfOk result (λ totals. totals ≡ None → AreGaps (length stream.entry.symbols - 1) stream.entry.terms.gaps → ⊥) }
+{
     if !stream.may_end() {
         return Ok(None);
     }
-    let end = stream.finish(alloc)?;
-    Ok(Some(end.totals))
+    Ok(Some(stream.finish(alloc)?.totals))
 }

@@ -28,11 +28,11 @@ pub fn heard_in_a_row(reader: &mut Reader<'_>, place: u64) -> bool
     ensures same { reader.new ≡ reader.old }
 {
     let _len = reader.recording().len();
-    let [one, two, three, four] = reader.four_windows(place);
-    reader.window(place + 78) == four
-        && reader.window(place + 52) == three
-        && reader.window(place + 26) == two
-        && reader.window(place) == one
+    let row = reader.four_windows(place);
+    let four = reader.window(place + 78);
+    let three = reader.window(place + 52);
+    let two = reader.window(place + 26);
+    row == [reader.window(place), two, three, four]
 }
 
 /// All valid windows of a recording, by rising place. Only memory can be refused.
@@ -106,7 +106,6 @@ pub fn with_gaps(bytes: Vec<u8>, bits: u64, gaps: Vec<(u64, u64)>) -> Result<Rec
 
 /// The block of a window that touches a gap is lost, whatever its bits are, and has no offset. Any other window is heard as it is stored. A
 /// window is counted either way.
-#[tactic(auto, using(std::proofs::lemmas::Grind::common_steps, rds_stream::proofs::WindowLists::off_late, rds_stream::proofs::WindowLists::heard_clear, rds_stream::proofs::WindowLists::heard_touched))]
 pub fn block_with_gaps(
     table: &BurstTable,
     recording: &Recording,

@@ -2,7 +2,7 @@
 ghost use Rattle.std.specs.Prelude.{◌≡◌, ◌≢◌, ℕ, ◌+◌, ◌-◌, ◌*◌, ◌<◌, ◌≤◌, ◌^◌, ◌++◌, ◌∷◌, ◌↔◌, [], IsTrue, IfOk, IsOkUnless, None, Some, true, Bool, if◌then◌else◌};
 ghost use Rattle.std.specs.Int.{bit_at};
 ghost use Rattle.rds_stream.specs.Recording.{length_of, touched};
-ghost use Rattle.rds_sync.specs.{declared.item.Block.Block as ABlock, declared.state.State.State as AState, declared.state.State.TheVariants.Searching, Advance.group_item, Advance.items_in, Counting.IsAtMost, Convergence.IsSound, Convergence.sound_bits, Decoding.listed, GroupLaws.IsBlock, Groups.group as group_at, Groups.info_of, Lawful.IsBetweenGroups, Lawful.IsLawful, Loss.IsLawfulBad, Loss.bad_at, Loss.loses, Report.report_items, Step.items_at, Step.items_of_end, Step.run as run_of, Step.step, Totals.totals_of, declared.loss.Loss.TheVariants.Share, Ranges.IsLossInRange};
+ghost use Rattle.rds_sync.specs.{declared.item.Block.Block as ABlock, declared.state.State.State as AState, declared.step.Step.Step as AStep, Stretch.IsStretch, declared.state.State.TheVariants.Searching, Advance.group_item, Advance.items_in, Counting.IsAtMost, Convergence.IsSound, Convergence.sound_bits, Decoding.listed, GroupLaws.IsBlock, Groups.group as group_at, Groups.info_of, Lawful.IsBetweenGroups, Lawful.IsLawful, Loss.IsLawfulBad, Loss.bad_at, Loss.loses, Report.report_items, Step.items_at, Step.items_of_end, Step.run as run_of, Step.step, Totals.totals_of, declared.loss.Loss.TheVariants.Share, Ranges.IsLossInRange};
 ghost use Rattle.rds_code.specs.declared.error.RdsError.TheVariants.{BurstRange, LossRange, OutOfMemory, ReachRange, ShareRange};
 
 use rds_code::RdsError;
@@ -14,15 +14,21 @@ use rds_sync::{
 use std::alloc::Global;
 use std::snapshot::Snapshot;
 
-/// Rules are made again of the numbers that they were made of, together and one after the other. Each fits in a byte, and only memory can be
-/// refused.
+/// Rules are made again of the numbers that they were made of. Only memory can be refused.
+pub fn rules_again(alloc: Global, rules: &Rules) -> Result<Rules, RdsError>
+    ensures rules { IfOk result (λ made. made ≡ rules.now) }
+    ensures refused { IsOkUnless result OutOfMemory }
+{
+    Rules::of(alloc, rules.numbers())
+}
+
+/// So they are of their numbers one after the other, each of which fits in a byte.
 pub fn rules_in_bytes(alloc: Global, rules: &Rules) -> Result<Rules, RdsError>
     ensures rules { IfOk result (λ made. made ≡ rules.now) }
     ensures refused { IsOkUnless result OutOfMemory }
 {
-    let again = Rules::of(alloc, rules.numbers())?;
-    let (burst, reach) = (again.burst() as u8, again.reach() as u8);
-    match again.loss() {
+    let (burst, reach) = (rules.burst() as u8, rules.reach() as u8);
+    match rules.loss() {
         Loss::Run(blocks) => Rules::new(alloc, burst.into(), reach.into(), u32::from(blocks as u8)),
         Loss::Share { bad, of } => Rules::with_share(
             alloc,
@@ -126,35 +132,50 @@ pub fn cost_of_end<T: Tape>(tape: &mut T, rules: &Rules, state: State) -> Option
     finish(tape, rules, state)
 }
 
-/// A stretch is the run over its bits, and goes at least as far as a step. Its reader can go on. A hop of a tally that ends where it does
-/// ends in its state.
+/// A stretch is the run over its bits, and goes at least as far as a step. Its reader can go on.
 pub fn one_stretch(
-    alloc: Global,
     reader: &mut Reader<'_>,
     rules: &Rules,
     state: State,
     place: u64,
     to: u64,
-) -> (Step, bool, bool)
+) -> (Step, bool)
     requires lawful { IsLawful rules.now place state }
     requires before { place < to }
     requires within { to ≤ length_of reader.old }
     ensures moved { (place < result.0.place) × (result.0.place ≤ to) }
     ensures items { items_in result.0.items ≡ (run_of reader.old rules.now state place (result.0.place - place)).1 }
     ensures no_further { result.1 ≡ true }
-    ensures hop { result.2 ≡ true }
     ensures same { reader.new ≡ reader.old }
 {
     laws::steps_agree();
     let recording = reader.recording();
     let _len = recording.len();
     let step = advance(&mut Counted::new(recording), rules, state, place, to);
+    let far = stretch(reader, rules, state, place, to);
+    (far, step.place <= far.place)
+}
+
+/// A hop of a tally that ends where a stretch does ends in its state.
+pub fn one_hop(
+    alloc: Global,
+    recording: &Recording,
+    rules: &Rules,
+    state: State,
+    place: u64,
+    to: u64,
+) -> (u64, State)
+    requires lawful { IsLawful rules.now place state }
+    requires before { place < to }
+    requires within { to ≤ length_of recording.now }
+    ensures state { (far : AStep) → IsStretch recording.now rules.now state place to far → result.0 ≡ far.place → result.1 ≡ far.state }
+{
+    laws::steps_agree();
+    let _len = recording.len();
     let source = Snapshot::of(recording);
     let mut tally = Tally::new(alloc, source, rules, state, place, Spans::Whole);
-    let hopped = tally.hop(&mut Counted::new(recording), rules, to, to);
-    let far = stretch(reader, rules, state, place, to);
-    let is_same = tally.place() != far.place || tally.state() == far.state;
-    (far, step.place <= far.place, hopped.is_err() || is_same)
+    let _hopped = tally.hop(&mut Counted::new(recording), rules, to, to);
+    (tally.place(), tally.state())
 }
 
 /// The items of the run over a recording in two parts, with the group at its end, are the report's.

@@ -1,7 +1,7 @@
 -- The zero group three times, cut after the first: the items that a join takes from both guesses.
-use Rattle.std.{specs.Prelude.◌≡◌, specs.Prelude.◌==◌, specs.Prelude.◌++◌, specs.Prelude.List, specs.Prelude.drop, specs.Prelude.length, specs.Prelude.refl, proofs.Common.ap, proofs.lemmas.Bool.false≢true, proofs.lemmas.Bool.leb-true}
+use Rattle.std.{specs.Prelude.◌≡◌, specs.Prelude.◌∷◌, specs.Prelude.◌++◌, specs.Prelude.List, specs.Prelude.[], specs.Prelude.drop, specs.Prelude.length, specs.Prelude.refl, proofs.lemmas.Bool.leb-true}
 use Rattle.rds_stream.specs.Recording.{Signal, bits_of, ungapped}
-use Rattle.rds_sync.specs.{declared.state.State.TheVariants.Searching, declared.state.State.TheVariants.Locked, declared.item.Item.Item, Examples.Words.computed, Examples.Words.zero_group, Examples.Words.default_rules, Examples.Words.totals, Step.lock_of, Step.run, Totals.totals_of}
+use Rattle.rds_sync.specs.{declared.state.State.TheVariants.Searching, declared.state.State.TheVariants.Locked, declared.item.Item.Item, declared.item.Item.TheVariants.Acquired, Examples.Words.computed, Examples.Words.whole_at, Examples.Words.zero_group, Examples.Words.default_rules, Examples.Words.totals, Step.lock_of, Step.run, Totals.totals_of}
 use Rattle.rds_pieces.specs.{Guess.guess, Meeting.MeetAt, RunOf.run_over, RunOf.end_of}
 
 abbrev pub b : Signal
@@ -26,28 +26,32 @@ pub passed : length (guess b default_rules 104 104).1 ≡ 2
 unfolding computed
 passed = refl
 
--- the run from the left end up to the meeting, and the right guess from there on
+-- the items of the right guess, and those of the run from the left end: up to the meeting, and over the right range
+abbrev pub guessed : List Item
+guessed = (guess b default_rules 104 208).1
+
 abbrev pub own : List Item
 own = (run b default_rules (Locked (lock_of 129 1 0 1)) 104 104).1
 
 abbrev pub whole : List Item
 whole = (run b default_rules (Locked (lock_of 129 1 0 1)) 104 208).1
 
-pub joined : own ++ drop 2 (guess b default_rules 104 208).1 ≡ whole
+pub given : (guessed ≡ Acquired 129 1 ∷ whole_at 104 ∷ whole_at 208 ∷ []) × (own ≡ whole_at 104 ∷ []) × (whole ≡ whole_at 104 ∷ whole_at 208 ∷ [])
 unfolding computed
-joined = refl
+given = (refl, refl, refl)
+
+-- the run up to the meeting, and the right guess from there on
+pub joined : own ++ drop 2 guessed ≡ whole
+joined = rw (given.0, given.1, given.2) refl
 
 -- the group before the meeting is not taken of both
-pub not_twice : own ++ drop 1 (guess b default_rules 104 208).1 ≡ whole → ⊥
-unfolding computed
-not_twice same = false≢true (ap (λ items. length items == 2) same)
+pub not_twice : own ++ drop 1 guessed ≡ whole → ⊥
+not_twice = rw (given.0, given.1, given.2) (λ same. cc same)
 
 -- and not of none
-pub not_left_out : drop 2 (guess b default_rules 104 208).1 ≡ whole → ⊥
-unfolding computed
-not_left_out same = false≢true (ap (λ items. length items == 2) same)
+pub not_left_out : drop 2 guessed ≡ whole → ⊥
+not_left_out = rw (given.0, given.2) (λ same. cc same)
 
 -- the totals over the right range: of both groups
 pub counted : totals_of whole ≡ totals 8 0 0 0 0 0 0 0 2 2 0 0
-unfolding computed
-counted = refl
+counted = rw given.2 refl

@@ -26,13 +26,13 @@ one_group = refl
 abbrev pub items_of : ℕ → List Item
 items_of groups = items_of_whole ++ map (λ k. whole_at (104 + 104 * k)) (range_with_len 0 groups)
 
--- two groups and eight: one lock, by either reach
+-- two groups and four: one lock, by either reach
 pub more_groups : AreReported (
     row (first 208 (zero_groups 2)) default_rules (items_of 1) (totals 7 0 0 0 0 0 0 0 2 1 1 0)
     -- its block 3 ends at bit 181
     ∷ row (first 182 (zero_groups 2)) default_rules (and_then A a0 b0 c0 missing) (totals 6 0 0 0 0 0 0 0 2 0 1 0)
-    ∷ row (first 832 (zero_groups 8)) (rules_of 2 4 10) (items_of 7) (totals 31 0 0 0 0 0 0 0 8 7 1 0)
-    ∷ row (first 832 (zero_groups 8)) (rules_of 2 3 10) (items_of 7) (totals 31 0 0 0 0 0 0 0 8 7 1 0)
+    ∷ row (first 416 (zero_groups 4)) (rules_of 2 4 10) (items_of 3) (totals 15 0 0 0 0 0 0 0 4 3 1 0)
+    ∷ row (first 416 (zero_groups 4)) (rules_of 2 3 10) (items_of 3) (totals 15 0 0 0 0 0 0 0 4 3 1 0)
     ∷ [])
 unfolding computed
 more_groups = refl
@@ -147,18 +147,18 @@ lost_at_64 = items_of_whole ++ lost_groups 16 ++ LostLock 1767 ∷ []
 abbrev pub lost_at_11 : List Item
 lost_at_11 = items_of_whole ++ lost_groups 2 ++ group_at 312 None Unknown lost lost lost missing ∷ LostLock 389 ∷ []
 
-abbrev pub kept_at_63 : List Item
-kept_at_63 = items_of_whole ++ lost_groups 15 ++ group_at 1664 None Unknown lost lost lost d0
-    ∷ group_at 1768 None Unknown lost lost lost lost ∷ []
+abbrev pub kept_at_11 : List Item
+kept_at_11 = items_of_whole ++ lost_groups 2 ++ group_at 312 None Unknown lost lost lost d0
+    ∷ group_at 416 None Unknown lost lost lost lost ∷ []
 
 pub long_losses : AreReported (
     -- the sixty-fourth bad block, a block 4, loses the lock
     row (first 1768 (silence 16)) (rules_of 0 3 64) lost_at_64 (totals 3 0 0 0 0 0 64 0 17 0 1 1)
     -- the eleventh, a block 3
     ∷ row (first 520 (silence 4)) (rules_of 0 3 11) lost_at_11 (totals 3 0 0 0 0 0 11 0 4 0 1 1)
-    -- after sixty-three bad blocks a good one, block 4, keeps it, and counting begins anew
-    ∷ row (first 1872 (zero_group ++ replicate 205 0x00 ++ 0x00 ∷ 0x01 ∷ 0xb4 ∷ replicate 13 0x00)) (rules_of 0 3 64)
-    kept_at_63 (totals 4 0 0 0 0 0 67 0 18 0 1 0)
+    -- after eleven bad blocks of twelve a good one, block 4, keeps it, and counting begins anew
+    ∷ row (first 520 (zero_group ++ replicate 36 0x00 ++ 0x00 ∷ 0x01 ∷ 0xb4 ∷ replicate 13 0x00)) (rules_of 0 3 12)
+    kept_at_11 (totals 4 0 0 0 0 0 15 0 5 0 1 0)
     ∷ [])
 unfolding computed
 long_losses = refl

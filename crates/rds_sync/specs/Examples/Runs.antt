@@ -2,7 +2,7 @@
 use Rattle.std.{specs.Prelude.not, specs.Prelude.◌≡◌, specs.Prelude.◌==◌, specs.Prelude.List, specs.Prelude.[], specs.Prelude.◌∷◌, specs.Prelude.map, specs.Prelude.Some, specs.Prelude.None, specs.Prelude.refl, specs.List.filter, proofs.Common.ap, proofs.Common.sym, proofs.lemmas.Bool.false≢true}
 use Rattle.rds_stream.specs.Recording.{length_of}
 use Rattle.rds_sync.specs.Examples.Words.{Signal, State, Searching, Locked, lock_of, run, Item, Acquired, LostLock, Unknown, A, OA, computed, first, zero_group, zero_groups, rules_of, rules_with_share, default_rules, missing, corrected, lost, b0, c0, d0, group_at, from_2_at, from_3_at, only_4_at, lost_1_at, items_of_whole, and_then, due_1}
-use Rattle.rds_sync.specs.{Advance.next_place, Advance.reads_most, Decoding.DecoderOf, Decoding.decoder_of, Decoding.GivesNext, Decoding.listed, Report.report_items, Step.items_of_end, Totals.is_group, Examples.Reports.one_bad, Examples.Reports.two_bad, Examples.Reports.items_lost, Examples.Reports.block_1_loses, Examples.Reports.silence, Examples.Reports.lost_at_64}
+use Rattle.rds_sync.specs.{Advance.next_place, Advance.reads_most, Decoding.DecoderOf, Decoding.decoder_of, Decoding.GivesNext, Decoding.listed, Report.report_items, Step.items_of_end, Totals.is_group, Examples.Reports.one_bad, Examples.Reports.two_bad, Examples.Reports.items_lost, Examples.Reports.block_1_loses}
 
 abbrev pub b : Signal
 b = first 104 zero_group
@@ -39,9 +39,8 @@ pub with_losses : ((run (first 208 one_bad) (rules_of 2 3 1) Searching 0 208).1 
     × (run (first 208 two_bad) (rules_with_share 2 3) Searching 0 208 ≡ (due_1 233, items_lost))
     × (run (first 208 two_bad) (rules_with_share 2 2) Searching 0 208
     ≡ (Locked (lock_of 233 1 2 1), and_then A lost b0 lost d0))
-    × ((run (first 1768 (silence 16)) (rules_of 0 3 64) Searching 0 1768).1 ≡ lost_at_64)
 unfolding computed
-with_losses = (refl, refl, refl, refl, refl)
+with_losses = (refl, refl, refl, refl)
 
 -- ---- guesses that differ: over eight zero groups from a search at place 190. A window at a false phase is valid as block 2 once in each
 -- group, at places 96, 200, 304 and so on.

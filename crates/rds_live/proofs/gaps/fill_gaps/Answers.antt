@@ -1,4 +1,4 @@
-use Rattle.rds_live.proofs.Names.{◌+◌, ◌^◌, ◌∷◌, ◌++◌, [], drop, length, ap, sym, ◌∙◌, arith, length-append, gaps_within}
+use Rattle.rds_live.proofs.Names.{common_steps, ◌+◌, ◌^◌, ◌∷◌, ◌++◌, [], drop, length, ap, sym, ◌∙◌, arith, length-append, gaps_within}
 use Rattle.rds_live.proofs.GapParts.{few-of-part, one-found}
 use Rattle.rds_live.proofs.gaps.fill_gaps.Goals as goal
 
@@ -22,3 +22,9 @@ push_reserved-requires c =
       c.clear.ensures.capacity,
       loop.found.ok.0,
     )
+
+pub loop-gap-preserved : goal.loop-gap-preserved
+loop-gap-preserved = grind (arith, common_steps)
+
+pub returns-clause-gaps : goal.returns-clause-gaps
+returns-clause-gaps = grind (arith, common_steps)

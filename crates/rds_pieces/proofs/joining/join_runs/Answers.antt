@@ -1,4 +1,4 @@
-use Rattle.rds_pieces.proofs.Names.{rules, Searching, end_of, IsMeeting}
+use Rattle.rds_pieces.proofs.Names.{arith, common_steps, rules, Searching, end_of, IsMeeting}
 use Rattle.rds_pieces.proofs.SoonLemmas.{meet_soon}
 use Rattle.rds_pieces.proofs.joining.join_runs.Goals as goal
 
@@ -19,3 +19,6 @@ returns-clause-cost g c =
       reads_way = λ met first. c.seam.ensures.reads_way met (rw c.end_state.ensures first);
       reads_most = c.seam.ensures.reads_most;
     }
+
+pub returns-in_err-with_rest-clause-cost : goal.returns-in_err-with_rest-clause-cost
+returns-in_err-with_rest-clause-cost = grind (arith, common_steps)

@@ -25,9 +25,9 @@ module _ (c : After-totals) where
 pub less-rest-requires : goal.less-rest-requires
 less-rest-requires c = let a = (goal.at.less-rest-requires c).After-totals in (totals_of (later c.run_laws.ensures (met a)).1, rest a)
 
-pub plus-report-requires : goal.plus-report-requires
-plus-report-requires c =
-    let a = (goal.at.plus-report-requires c).After-totals in
+pub plus-totals-requires : goal.plus-totals-requires
+plus-totals-requires c =
+    let a = (goal.at.plus-totals-requires c).After-totals in
     let mine = c.in_ok-report.ensures.totals ∙ ap (λ (t : TallyOf). totals_of t.list) (own a) in
     sewn_fit c.run_laws.ensures (met a) c.range.ensures.rules.burst (omega (arith, c.range.ensures.inside, c.range.ensures.few)) mine (c.less-rest.ensures.value _ (rest a))
 
@@ -42,7 +42,7 @@ pub returns-in_ok-append_from-in-Some-clause-totals : goal.returns-in_ok-append_
 returns-in_ok-append_from-in-Some-clause-totals c =
     let a = (goal.at.returns-in_ok-append_from-in-Some-clause-totals c).After-totals in
     let mine = c.in_ok-report.ensures.totals ∙ ap (λ (t : TallyOf). totals_of t.list) (own a) in
-    c.plus-report.ensures.value ∙ sewn_totals c.run_laws.ensures (met a) mine (c.less-rest.ensures.value _ (rest a))
+    c.plus-totals.ensures.value ∙ sewn_totals c.run_laws.ensures (met a) mine (c.less-rest.ensures.value _ (rest a))
 
 pub returns-in_ok-append_from-in-Some-clause-end : goal.returns-in_ok-append_from-in-Some-clause-end
 returns-in_ok-append_from-in-Some-clause-end c =

@@ -1,4 +1,4 @@
-use Rattle.rds_sync.proofs.Lemmas.{◌≡◌, ◌≤◌, ◌<◌, ◌+◌, ◌-◌, ◌++◌, ℕ, List, [], Some, None, refl, ap, sym, subst, ◌∙◌, arith, Signal, WindowsLeft, FindsFirst, Offset, number, Item, Lock, State, Searching, Locked, IsCountStretch, CountOf, added, has_number, HasFound, IsLostAtOnce, IsLawful, RuleNumbers, items_at, run, lock_after, added-further, found-first, lawful-acquired, run-unfound, run-further, acquired-number, short-run, short-counts}
+use Rattle.rds_sync.proofs.Lemmas.{common_steps, ◌≡◌, ◌≤◌, ◌<◌, ◌+◌, ◌-◌, ◌++◌, ℕ, List, [], Some, None, refl, ap, sym, subst, ◌∙◌, arith, Signal, WindowsLeft, FindsFirst, Offset, number, Item, Lock, State, Searching, Locked, IsCountStretch, CountOf, added, has_number, HasFound, IsLostAtOnce, IsLawful, RuleNumbers, items_at, run, lock_after, added-further, found-first, lawful-acquired, run-unfound, run-further, acquired-number, short-run, short-counts}
 use Rattle.rds_sync.proofs.count_run.search_on.{Invariants.HasSearchedOn, Goals.After-add_loss}
 use Rattle.rds_sync.proofs.count_run.search_on.Goals as goal
 
@@ -104,3 +104,6 @@ returns-clause-reached c =
     let searched = c.loop-here.invariant in
     let none = subst (λ (w : WindowsLeft). FindsFirst rules w None c.next_acquiring.new.windows) searched.left_is c.in_default.ensures in
     reached searched c.args.to Searching [] c.loop-here.counts searched.limit (omega arith) (run-unfound b rules c.loop-here.windows.next c.args.to searched.limit none) refl Searching c.requires.order refl tt
+
+pub after_block-lock-requires : goal.after_block-lock-requires
+after_block-lock-requires = grind (arith, common_steps)

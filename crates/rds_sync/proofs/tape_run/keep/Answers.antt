@@ -21,3 +21,12 @@ returns-in-Lost-clause-came g c =
     counted _ _ _ _ _ last read _ Lost c.args.counts.now c.add_loss.new.self c.follow_group-blocks.ensures.reached c.in-Lost.is
     (lost-added c.args.counts.now c.add_group-in-Lost.new.self c.add_loss.new.self (group_of (last.due - 26 * (last.number - last.first) - 25) read) (blocks_in c.word_of_blocks-in-Lost.result) last.due
     c.word_of_blocks-in-Lost.ensures.blocks c.add_group-in-Lost.ensures c.add_loss.ensures)
+
+pub add_loss-requires : goal.add_loss-requires
+add_loss-requires = grind (arith, common_steps)
+
+pub add_group-requires : goal.add_group-requires
+add_group-requires = grind (arith, common_steps)
+
+pub add_group-requires-in-Lost : goal.add_group-requires-in-Lost
+add_group-requires-in-Lost = grind (arith, common_steps)

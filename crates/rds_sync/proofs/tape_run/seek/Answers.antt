@@ -1,4 +1,4 @@
-use Rattle.rds_sync.proofs.Lemmas.{common_steps, ◌≡◌, ◌≤◌, ℕ, Some, ap, sym, ◌∙◌, arith, Signal, acquired, lock_after, Lock, Locked, lawful-acquired, run-acquired}
+use Rattle.rds_sync.proofs.Lemmas.{common_steps, ◌≡◌, ◌≤◌, ℕ, Some, ap, sym, ◌∙◌, arith, Signal, acquired, lock_after, Lock, Locked, lawful-acquired, run-acquired, sought}
 use Rattle.rds_sync.proofs.tape_run.seek.Goals as goal
 
 pub returns-in-Some-clause-came : goal.returns-in-Some-clause-came
@@ -15,3 +15,15 @@ returns-in-Some-clause-came g c =
     let lawful = lawful-acquired b rules l.here x gives c.reach.ensures.range.loss.0 in
     let given = c.add_found.ensures.given b rules gives in
     grind (arith, common_steps, lock_is, run_is, lawful, given, l.invariant.counts)
+
+pub returns-clause-quiet : goal.returns-clause-quiet
+returns-clause-quiet = grind (arith, sought)
+
+pub lock-requires : goal.lock-requires
+lock-requires = grind (arith, common_steps)
+
+pub returns-clause-came : goal.returns-clause-came
+returns-clause-came = grind (arith, sought)
+
+pub returns-in-Some-clause-quiet : goal.returns-in-Some-clause-quiet
+returns-in-Some-clause-quiet = grind (arith, sought)

@@ -1,5 +1,6 @@
 use Rattle.rds_tool.proofs.Names.{arith, rules, ◌∙◌, ap, length, refl}
 use Rattle.rds_tool.proofs.{Passing.passed, Passing.passes, Reading.end_told, Reading.kind_told, Reading.ok_told, Reading.turns_not_told}
+use Rattle.rds_tool.proofs.Reading.{read_steps}
 use Rattle.rds_tool.proofs.engine.read_all.Goals as goal
 
 pub returns-clause-turns : goal.returns-clause-turns
@@ -34,3 +35,12 @@ read_some-requires-sync-R g c = λ κs w. (
     ),
   ),
 )
+
+pub returns-then-is_at_end-clause-given : goal.returns-then-is_at_end-clause-given
+returns-then-is_at_end-clause-given = grind (arith, read_steps)
+
+pub turns-smaller : goal.turns-smaller
+turns-smaller = grind (arith, read_steps)
+
+pub turns-preserved : goal.turns-preserved
+turns-preserved = grind (arith, read_steps)

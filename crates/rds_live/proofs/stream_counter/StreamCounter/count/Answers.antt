@@ -1,4 +1,4 @@
-use Rattle.rds_live.proofs.Names.{◌≡◌, ◌^◌, ◌++◌, List, ap, subst, sym, ◌∙◌, ℕ, AreGaps, IsInRange, NextIsHeard, PiecesJoin, live_next, HasHeard, IsStreamDecoder, LiveOf}
+use Rattle.rds_live.proofs.Names.{common_steps, arith, ◌≡◌, ◌^◌, ◌++◌, List, ap, subst, sym, ◌∙◌, ℕ, AreGaps, IsInRange, NextIsHeard, PiecesJoin, live_next, HasHeard, IsStreamDecoder, LiveOf}
 use Rattle.rds_live.proofs.Sewing.{heard-on}
 use Rattle.rds_live.proofs.stream_counter.StreamCounter.count.Goals as goal
 
@@ -51,3 +51,6 @@ returns-clause-heard g c before h =
     let s = c.self.inside in
     heard_by s.live c.args.self.now _ s.gathered.items c.args.bytes.now c.next_is_heard.ensures c.pieces_join.ensures c.self.view_is c.is_known.ensures.range c.is_known.ensures.live
     (returns-clause-next g c) before h
+
+pub invariant_of-self : goal.invariant_of-self
+invariant_of-self = grind (arith, common_steps)

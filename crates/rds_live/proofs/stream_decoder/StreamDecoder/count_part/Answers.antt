@@ -1,4 +1,4 @@
-use Rattle.rds_live.proofs.Names.{◌≡◌, ◌+◌, ◌-◌, ◌*◌, ◌∙◌, length, refl, run, run_next}
+use Rattle.rds_live.proofs.Names.{common_steps, arith, ◌≡◌, ◌+◌, ◌-◌, ◌*◌, ◌∙◌, length, refl, run, run_next}
 use Rattle.rds_live.proofs.{Nexts.heard-inside, Nexts.next-inside, stream_decoder.StreamDecoder.count_part.Goals.After-moved_on-self-inside}
 use Rattle.rds_live.proofs.stream_decoder.StreamDecoder.count_part.Goals as goal
 
@@ -16,3 +16,6 @@ returns-clause-next c =
     next-inside c.args.self.now start c.next_start-start.ensures _ c.self.view_is c.totals_join.ensures c.args.bytes.now c.listen.new.self.bytes c.keep_last.new.self.bytes
     (start.before + (start.from + 8 * length c.args.bytes.now)) _ c.run_totals-end.result.0 c.moved_on-self-inside.result c.run_totals-end.result.1 c.plus-self-inside.result (there c)
     (c.listen.ensures.bytes ∙ c.push.ensures.bytes) c.keep_last.ensures.bytes refl c.run_totals-end.ensures.state c.moved_on-self-inside.ensures c.run_totals-end.ensures.totals c.plus-self-inside.ensures.value
+
+pub invariant_of-self : goal.invariant_of-self
+invariant_of-self = grind (arith, common_steps)

@@ -1,4 +1,4 @@
-use Rattle.rds_live.proofs.Names.{common_steps, ◌≡◌, ◌++◌, ◌∙◌, List, [], ap, arith, refl, subst, sym, ℕ, append-nil, Signal, length_of, group_item, plus, IsLawful, totals_of, Item, gaps_within, group_next, run_next, LiveOf, complete, report_of}
+use Rattle.rds_live.proofs.Names.{◌≡◌, ◌++◌, ◌∙◌, List, [], ap, ap₂, arith, refl, subst, sym, ℕ, append-nil, Signal, length_of, group_item, plus, IsLawful, totals_of, Item, gaps_within, group_next, run_next, LiveOf, complete, report_of}
 use Rattle.rds_live.proofs.{Nexts.group-inside, Nexts.part-inside, Nexts.report-now, Nexts.totals-end, Parts.length-at, stream_decoder.StreamDecoder.finish.Goals.After-stream_end_of}
 use Rattle.rds_live.proofs.stream_decoder.StreamDecoder.finish.Goals as goal
 
@@ -19,7 +19,9 @@ closed_is c =
     (ap group_item c.stream_end_of.ensures.group ∙ c.moved_end-group.ensures)
 
 counted_is : (c : After-stream_end_of) → c.stream_end_of.result.totals ≡ plus c.args.self.totals (totals_of (group_next c.args.self [] 0))
-counted_is c = grind (arith, common_steps, closed_is c)
+counted_is c =
+    c.stream_end_of.ensures.totals
+    ∙ ap₂ (λ (l : LiveOf) (items : List Item). plus l.totals (totals_of items)) c.self.view_is (sym (ap group_item c.stream_end_of.ensures.group) ∙ closed_is c)
 
 pub returns-clause-closed : goal.returns-clause-closed
 returns-clause-closed c = closed_is (goal.at.returns-clause-closed c).After-stream_end_of

@@ -37,7 +37,9 @@ module _ (c : After-stream_end_of) where
       (omega (arith, few, c.div_ceil.ensures)) refl c.push.ensures.bytes c.into_recording-part.ensures
 
   run_is : run c.into_recording-part.result c.self.inside.rules.now start.state start.from (start.from + bits - start.from) ≡ run_next c.args.self bytes bits
-  run_is = grind (arith, common_steps, run-is c.args.self start c.next_start-start.ensures bytes c.into_recording-part.result bits (start.from + bits - start.from) part_is, c.self.view_is)
+  run_is =
+      ap (λ (l : LiveOf). run c.into_recording-part.result l.terms.rules start.state start.from (start.from + bits - start.from)) c.self.view_is
+      ∙ run-is c.args.self start c.next_start-start.ensures bytes c.into_recording-part.result bits (start.from + bits - start.from) part_is (omega arith)
 
   completed_is : (with_items c.fill_from-end.new.items c.move_on.new.items).items ≡ items_next c.args.self bytes bits
   completed_is =
@@ -85,3 +87,6 @@ returns-clause-totals c before h =
     totals-end c.totals_join.ensures (plus live.totals (totals_of more)) c.stream_end_of.result.totals (complete live.terms before ++ more) (group_next live c.args.bytes.now c.args.bits)
     (report_at live.terms (before ++ c.args.bytes.now) (8 * length before + c.args.bits))
     (ap (λ (l : LiveOf). plus l.totals (totals_of more)) h ∙ sym (c.totals_join.ensures (complete live.terms before) more).joined) (counted_is c) (report_is c before h)
+
+pub into_recording-part-requires-clause-held : goal.into_recording-part-requires-clause-held
+into_recording-part-requires-clause-held = grind (arith, common_steps)

@@ -1,4 +1,4 @@
-use Rattle.rds_live.proofs.Names.{◌≡◌, ◌+◌, ◌-◌, ◌*◌, ◌∙◌, List, ap, length, refl, length-map, with_items_is, run, totals_of, Item, moved_item, run_next}
+use Rattle.rds_live.proofs.Names.{common_steps, arith, ◌≡◌, ◌+◌, ◌-◌, ◌*◌, ◌∙◌, List, ap, length, refl, length-map, with_items_is, run, totals_of, Item, moved_item, run_next}
 use Rattle.rds_live.proofs.{Nexts.heard-inside, Nexts.items-inside, Nexts.next-inside, stream_decoder.StreamDecoder.take_part.Goals.After-moved_on-self-inside}
 use Rattle.rds_live.proofs.stream_decoder.StreamDecoder.take_part.Goals as goal
 
@@ -25,3 +25,6 @@ returns-clause-completed c =
     with_items_is c.fill_from-end.new.items c.move_on.new.items counted
     ∙ items-inside c.args.self.now c.next_start-start.result c.next_start-start.ensures _ c.self.view_is c.args.bytes.now (8 * length c.args.bytes.now) _ (there c)
     c.as_mut_slice.result.now c.move_on.new.items (c.as_mut_slice.ensures.value ∙ c.fill_from-end.ensures.items) c.move_on.ensures
+
+pub invariant_of-self : goal.invariant_of-self
+invariant_of-self = grind (arith, common_steps)

@@ -41,3 +41,12 @@ returns-clause-totals c =
     let e = (goal.at.returns-clause-totals c).After-end_near-group in
     subst (λ (h : SoftHeard). c.soft_end_of.result.totals ≡ soft_totals_of (report_of h.terms h.symbols)) c.self.view_is
     (c.soft_end_of.ensures.totals (complete (terms e) (symbols e)) c.self.invariant.totals_are ∙ ap soft_totals_of (report_is e))
+
+pub overflow_sub-before : goal.overflow_sub-before
+overflow_sub-before = grind (arith, common_steps)
+
+pub near_of-requires-clause-limit : goal.near_of-requires-clause-limit
+near_of-requires-clause-limit = grind (arith, common_steps)
+
+pub end_near-group-requires-clause-limit : goal.end_near-group-requires-clause-limit
+end_near-group-requires-clause-limit = grind (arith, common_steps)

@@ -137,3 +137,27 @@ pub returns-clause-items : goal.returns-clause-items
 returns-clause-items g c =
     let n = (goal.at.returns-clause-items g c).In_ok-found in
     subst (λ (h : SoftHeard). complete h.terms (h.symbols ++ c.args.symbols.now) ≡ complete h.terms h.symbols ++ c.in_ok-found.found) c.self.view_is (complete_is g n)
+
+pub overflow_sub-before : goal.overflow_sub-before
+overflow_sub-before = grind (arith, common_steps)
+
+pub near_of-requires-clause-limit : goal.near_of-requires-clause-limit
+near_of-requires-clause-limit = grind (arith, common_steps)
+
+pub run_near-requires-clause-limit : goal.run_near-requires-clause-limit
+run_near-requires-clause-limit = grind (arith, common_steps)
+
+pub returns-clause-heard : goal.returns-clause-heard
+returns-clause-heard = grind (arith, common_steps)
+
+pub returns-in_err-items-clause-heard : goal.returns-in_err-items-clause-heard
+returns-in_err-items-clause-heard = grind (arith, common_steps)
+
+pub returns-in_err-items-clause-items : goal.returns-in_err-items-clause-items
+returns-in_err-items-clause-items = grind (arith, common_steps)
+
+pub returns-in_err-items-clause-refused : goal.returns-in_err-items-clause-refused
+returns-in_err-items-clause-refused = grind (arith, common_steps)
+
+pub returns-in_err-kept-clause-refused : goal.returns-in_err-kept-clause-refused
+returns-in_err-kept-clause-refused = grind (arith, common_steps)

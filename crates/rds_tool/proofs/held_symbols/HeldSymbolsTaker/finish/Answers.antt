@@ -1,6 +1,6 @@
-use Rattle.rds_tool.proofs.Names.{◌≡◌, ◌++◌, ◌∙◌, Bool, Ok, ap, false, flat_map, inr, sym, subst, true, AreGaps, IsMemoryOrErrOf, BadGaps, soft_row, soft_totals_text}
-use Rattle.rds_tool.proofs.HeldSymbols.{refused-gaps, rows-made, totals-made}
-use Rattle.rds_tool.specs.Inside.HeldSymbols.{HeldOf, text_of_held}
+use Rattle.rds_tool.proofs.Names.{◌≡◌, ◌∙◌, Bool, Ok, ap, false, inr, sym, subst, true, AreGaps, IsMemoryOrErrOf, BadGaps}
+use Rattle.rds_tool.proofs.HeldSymbols.{refused-gaps, text-made}
+use Rattle.rds_tool.specs.{Inside.HeldSymbols.HeldOf, Inside.HeldSymbols.text_of_held, Inside.Texts.bytes_of}
 use Rattle.rds_tool.proofs.held_symbols.HeldSymbolsTaker.finish.Goals as goal
 
 no_more : (b : Bool) → b ≡ false → b ≡ true → ⊥
@@ -14,21 +14,11 @@ returns-then-not-may_end-clause-refused g c =
     (inr (refused-gaps s.stream s.bits s.has_rows s.items s.count s.symbols.bytes c.self.invariant ok.0 ok.1
     (λ are. no_more c.may_end.result c.if-not-may_end.true (c.may_end.ensures.1 are))))
 
-pub returns-then-self-clause-ok : goal.returns-then-self-clause-ok
-returns-then-self-clause-ok g c =
-    let s = c.self.inside in
-    let ok = c.in_ok-check_symbols.ensures.ok in
-    let end = c.in_ok-end.end in
-    let list = c.in_ok-whole_list.field-0 in
-    subst (λ (held : HeldOf). text_of_held held.terms held.symbols ≡ Ok (flat_map soft_row list ++ soft_totals_text end.totals)) c.self.view_is
-    (rows-made s.stream s.bits s.has_rows s.items s.count s.symbols.bytes c.self.invariant ok.0 ok.1 (c.may_end.ensures.0 c.if-not-may_end.false)
-    end.totals c.in_ok-end.ensures.totals c.if-self.true end.group list c.in_ok-whole_list.ensures c.in_ok-end.ensures.group)
-
 pub returns-clause-ok : goal.returns-clause-ok
 returns-clause-ok g c =
     let s = c.self.inside in
     let ok = c.in_ok-check_symbols.ensures.ok in
     let end = c.in_ok-end.end in
-    subst (λ (held : HeldOf). text_of_held held.terms held.symbols ≡ Ok c.in_ok-soft_totals_rows.field-0.items) c.self.view_is
-    (totals-made s.stream s.bits s.has_rows s.items s.count s.symbols.bytes c.self.invariant ok.0 ok.1 (c.may_end.ensures.0 c.if-not-may_end.false)
-    end.totals c.in_ok-end.ensures.totals c.if-self.false ∙ ap (λ t. Ok t) (sym c.in_ok-soft_totals_rows.ensures))
+    subst (λ (held : HeldOf). text_of_held held.terms held.symbols ≡ Ok (bytes_of c.in_ok-text_of_end.field-0)) c.self.view_is
+    (text-made s.stream s.bits s.has_rows s.items s.count s.symbols.bytes c.self.invariant ok.0 ok.1 (c.may_end.ensures.0 c.if-not-may_end.false)
+    end.totals c.in_ok-end.ensures.totals end.group c.in_ok-end.ensures.group ∙ ap (λ t. Ok t) (sym c.in_ok-text_of_end.ensures))

@@ -1,4 +1,4 @@
-use Rattle.rds_tool.proofs.Names.{◌≡◌, ◌++◌, ◌∙◌, List, ap, append_assoc, flat_map, flat_map-append, subst, sym, ℕ, Appends, Appends-trans, AppendsPrefix, Item, item_row}
+use Rattle.rds_tool.proofs.Names.{arith, common_steps, ◌≡◌, ◌++◌, ◌∙◌, List, ap, append_assoc, flat_map, flat_map-append, subst, sym, ℕ, Appends, Appends-trans, AppendsPrefix, Item, item_row}
 use Rattle.rds_tool.proofs.{Passes.parted_rows, Passes.prefix_between, Passing.on_any_err}
 use Rattle.rds_rows.specs.Sheets.{size_of}
 use Rattle.rds_tool.specs.Inside.OnePass.{HasRoom}
@@ -35,3 +35,15 @@ returns-in_err-write_all-clause-prefix g c =
     (prefix_between _ _ _ _ _ (flat_map item_row c.fill.new.self.items) before.written
     (subst (λ (rows : List ℕ). AppendsPrefix (g.K.Sink.contents c.parts.writer) (g.K.Sink.contents c.write_all.new.writer) rows)
     (c.as_slice.ensures ∙ c.add_rows.ensures.rows) c.in_err-write_all.ensures.prefix)))
+
+pub returns-then-is_empty-clause-ok : goal.returns-then-is_empty-clause-ok
+returns-then-is_empty-clause-ok = grind (arith, common_steps)
+
+pub returns-then-is_empty-clause-counted : goal.returns-then-is_empty-clause-counted
+returns-then-is_empty-clause-counted = grind (arith, common_steps)
+
+pub add_rows-requires-clause-few : goal.add_rows-requires-clause-few
+add_rows-requires-clause-few = grind (arith, common_steps)
+
+pub parts-smaller : goal.parts-smaller
+parts-smaller = grind (arith, common_steps)
