@@ -158,7 +158,7 @@ def options() -> argparse.Namespace:
         parser.add_argument(name, type=periodic)
     for name in ("--dies", "--hangs"):
         parser.add_argument(name, type=float)
-    parser.add_argument("--sent", help="a file that gets the number of the last group after each write")
+    parser.add_argument("--sent", help="a file that gets the first group of each write and the one after it")
     return parser.parse_args()
 
 
@@ -175,7 +175,7 @@ def main() -> int:
         if number > sent:
             os.write(1, air.groups(range(sent, number)))
             for file in log:
-                os.write(file, f"{sent} {number} {time.time():.6f}\n".encode())
+                os.write(file, f"{sent} {number}\n".encode())
             sent = number
         if plan.dies is not None and utc - begin >= plan.dies:
             print("the dongle was unplugged", file=sys.stderr)

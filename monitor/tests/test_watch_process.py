@@ -97,10 +97,15 @@ def written(folder: Path) -> int:
     return sum(path.stat().st_size for path in (folder / "listings").glob("*/*.csv"))
 
 
-def sent_in(path: Path) -> List[Tuple[int, int, float]]:
-    """What receivers wrote: first group, the one after the last, and when."""
-    lines = [line.split() for line in path.read_text().splitlines()]
-    return [(int(first), int(after), float(utc)) for first, after, utc in lines]
+def runs_in(path: Path) -> List[List[range]]:
+    """The groups of each write, by runs of the receiver."""
+    runs: List[List[range]] = []
+    for line in path.read_text().splitlines():
+        first, after = map(int, line.split())
+        if not runs or runs[-1][-1].stop != first:
+            runs.append([])
+        runs[-1].append(range(first, after))
+    return runs
 
 
 # ---- signals
@@ -126,8 +131,8 @@ def test_a_watch_that_is_ended(tmp_path: Path, number: int) -> None:
 
 def all_received(folder: Path) -> None:
     """Each group that the receiver sent whole, but for the first and the last ones, is there once."""
-    sent = sent_in(folder / "sent")
-    wanted = numbered(range(sent[0][0] + 6, sent[-2][1]))
+    (writes,) = runs_in(folder / "sent")
+    wanted = numbered(range(writes[0].start + 6, writes[-2].stop))
     numbers = [number for number, _ in numbers_in(hours_in(folder, "Alpha"))]
     assert numbers == sorted(set(numbers)) and set(wanted) <= set(numbers)
 
@@ -235,15 +240,13 @@ def test_killed_fifty_times(tmp_path: Path) -> None:
     machine a second may take longer."""
     chance = random.Random(7)
     path, forker = table(tmp_path), Forker(tmp_path)
-    kills: List[float] = []
     for _ in range(50):
         pid, before = forker.start(path), written(tmp_path)
         end = time.monotonic() + chance.uniform(0, 0.3) + (PATIENCE if chance.random() < 0.8 else 0)
         while time.monotonic() < end and written(tmp_path) == before:
             time.sleep(0.02)
-        time.sleep(chance.uniform(0, 0.7))
+        time.sleep(chance.uniform(0, 1.5))
         forker.kill(pid)
-        kills.append(time.time())
     forker.end()
     last = Process(tmp_path, path)
     last.receives(500)
@@ -251,7 +254,7 @@ def test_killed_fifty_times(tmp_path: Path) -> None:
     assert ".csv: the last watch was killed; the hour is whole again\n" in last.log.read_text()
     numbers = [number for number, _ in numbers_in(hours_in(tmp_path, "Alpha"))]
     assert numbers == sorted(set(numbers)) and len(numbers) > 60
-    nothing_lost(set(numbers), sent_in(tmp_path / "sent"), kills)
+    nothing_lost(set(numbers), runs_in(tmp_path / "sent"))
     told_once(tmp_path)
     # A machine that is loaded gives bits late.
     high = int(time.time() * GROUPS_PER_SECOND) >> 32 << 32
@@ -260,16 +263,17 @@ def test_killed_fifty_times(tmp_path: Path) -> None:
     assert off[len(off) // 2] < 1
 
 
-def nothing_lost(found: "set[int]", sent: List[Tuple[int, int, float]], kills: List[float]) -> None:
-    """Between the first group of a session that is there and the last second before a kill, each is there."""
-    for begin, end in zip([0.0, *kills], [*kills, 1e12]):
-        mine = [one for one in sent if begin < one[2] <= end - 2]
-        numbers = numbered(n for first, after, _ in mine for n in range(first, after))
-        there = [n for n in numbers if n in found]
-        if there:
-            # The first groups may have come before the decoder had sync.
-            wanted = numbers[1:]
-            assert [n for n in wanted if n not in found] == []
+# Those of a second and a little more. If the machine halts for a while, the receiver does, too.
+LAST_WRITES = 12
+
+
+def nothing_lost(found: "set[int]", runs: List[List[range]]) -> None:
+    """Of a run that left rows, all numbers are there but those of its first group, which gives sync, and of its last writes."""
+    wanted: List[int] = []
+    for writes in runs:
+        numbers = numbered([n for write in writes[:-LAST_WRITES] for n in write][1:])
+        wanted += numbers if found.intersection(numbers) else []
+    assert wanted and [n for n in wanted if n not in found] == []
 
 
 # ---- receivers
