@@ -51,7 +51,7 @@
  * Parameters that several functions share:
  *   bytes, bytes_len  the recording, or the next bytes of a stream
  *   bits              the recording is the first bits bits of the bytes
- *   gaps, gaps_len    the gaps, in order; two may touch, and none is empty, overlaps another or goes past the end
+ *   gaps, gaps_len    the gaps, in order; two may touch, and none is empty, overlaps another or goes past the end (of a stream: 2^36 bits)
  *   rules             the decoder's rules
  *   room, room_len    receives the items from its beginning on, if they fit
  *   count             receives the number of items, also on RDS_SMALL_ROOM
@@ -170,8 +170,9 @@ typedef struct rds_state_t {
 } rds_state_t;
 
 /* The state of a stream between two chunks: 256 bytes, all 0 before the first call. It may be copied, stored, and continued elsewhere by
- * the same rules and gaps. However a stream was cut, by the same rules and gaps the same 256 bytes are left, so they can be compared and
- * hashed. They name their version and rules, in the processor's byte order; a difference in these is the error RDS_UNLAWFUL_STATE. */
+ * the same rules and gaps. However a stream was cut, by the same rules and gaps the calls leave the same 256 bytes, so they can be
+ * compared and hashed. They name their version and rules, in the processor's byte order; a difference in these is the error
+ * RDS_UNLAWFUL_STATE. */
 typedef struct rds_stream_t {
     uint32_t magic;      /* RDS_STREAM_MAGIC */
     uint32_t version;    /* RDS_STREAM_VERSION */
@@ -263,7 +264,7 @@ RDS_MUST_USE
 uint8_t rds_push(const uint8_t *bytes, size_t bytes_len, const rds_gap_t *gaps, size_t gaps_len, const rds_rules_t *rules,
                              rds_stream_t *stream, rds_item_t *room, size_t room_len, uint64_t *taken, uint64_t *count);
 
-/* Enough bytes of scratch for rds_push_with, without gaps: 10240 for tables and bytes, and 56 per item that is found at once. */
+/* Enough bytes of scratch for rds_push_with, without gaps: 9088 for tables and bytes, and 56 per item that is found at once. */
 #define RDS_PUSH_SCRATCH(len, room)                                                                                                    \
     (9088 + ((size_t)(len) < 960 && 16 * (size_t)(len) < (size_t)(room) ? 896 * (size_t)(len)                                          \
              : (size_t)(room) < 15360                                   ? 56 * (size_t)(room)                                          \

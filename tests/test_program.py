@@ -345,11 +345,23 @@ def test_past_a_file_size_limit(rds: str, tmp_path: Path, trap: str, status: int
 
 
 # The system puts the stack at another place each time, and what is there before counts too: so once is not enough.
-@pytest.mark.parametrize("workers, times", [(1, 1), (4, 8)])
-def test_stack_of_192_kib(rds: str, workers: int, times: int, cases: Cases) -> None:
+@pytest.mark.parametrize(
+    "kib, words, times",
+    [
+        (192, "list --workers 1", 1),
+        (192, "list --workers 4", 8),
+        (192, "follow", 1),
+        (576, "follow --workers 256", 8),
+    ],
+)
+def test_stack(
+    rds: str, station: bytes, kib: int, words: str, times: int, tmp_path: Path, cases: Cases
+) -> None:
     cases(times)
+    # more than a read of `follow` takes
+    (tmp_path / "bits").write_bytes(station * (2**18 // len(station) + 1))
     for _ in range(times):
-        ended = by_shell(rds, f'ulimit -s 192; exec "$RDS" list --workers {workers} <{SAMPLE}')
+        ended = by_shell(rds, f'ulimit -s {kib}; exec "$RDS" {words} <{tmp_path}/bits')
         assert (ended.status, ended.err) == (0, b"") and ended.out.decode().startswith(ACQUIRED)
 
 

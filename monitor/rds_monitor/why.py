@@ -40,7 +40,8 @@ def run_why(arguments: argparse.Namespace) -> int:
     said = ran.stderr.decode("utf-8", "replace")
     sys.stdout.write(said)
     refusal = re.search(r"^refused (\d+) ", said, re.M)
-    tell = TELLERS.get(int(refusal[1])) if refusal else blocks_e if "encode" not in words else None
+    is_decoded = ran.returncode == 0 and "encode" not in words
+    tell = TELLERS.get(int(refusal[1])) if refusal else blocks_e if is_decoded else None
     if tell:
         sys.stdout.write("".join(f"{line}\n" for line in tell(words, held)))
     return ran.returncode
@@ -59,7 +60,8 @@ def option(words: Sequence[str], name: str) -> Optional[str]:
 def bits_held(words: Sequence[str], held: bytes) -> int:
     if "--hex" in words:
         return 4 * sum(held.count(digit) for digit in DIGITS)
-    return 8 * len(held)
+    # A bit is the difference of two symbols.
+    return max(len(held) - 1, 0) if "--soft" in words else 8 * len(held)
 
 
 def hex_text(_words: Sequence[str], held: bytes) -> List[str]:
@@ -106,7 +108,11 @@ def first_bits(words: Sequence[str], held: bytes) -> Any:
     if "--hex" in words:
         digits = held[: MOST_BITS // 4].translate(None, b" \t\r\n")
         held = bytes.fromhex(digits[: len(digits) // 2 * 2].decode())
-    bits = numpy.unpackbits(numpy.frombuffer(held[: MOST_BITS // 8], "u1"))
+    if "--soft" in words:
+        signs = numpy.frombuffer(held[: MOST_BITS + 1], "i1") > 0
+        bits = numpy.not_equal(signs[1:], signs[:-1]).view("u1")
+    else:
+        bits = numpy.unpackbits(numpy.frombuffer(held[: MOST_BITS // 8], "u1"))
     return bits[: int(option(words, "bits") or MOST_BITS)]
 
 

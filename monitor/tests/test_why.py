@@ -41,6 +41,9 @@ CASES = [
     (b"0000", "list --hex --gaps 1-17", "16 BadGaps", ["gap 1, 1-17, " + PAST + "16 bits"]),
     (b"0000", "list --bits 7 --gaps 1-5,4-8", "16 BadGaps", ["gap 2, 4-8, " + PAST + "7 bits"]),
     (b"0000", "list --bits 33", "4 BitsPastBytes", ["the input holds 32 bits"]),
+    (bytes(60), "list --soft --bits 60", "4 BitsPastBytes", ["the input holds 59 bits"]),
+    (b"", "list --soft --bits 1", "4 BitsPastBytes", ["the input holds 0 bits"]),
+    (bytes(60), "list --soft --gaps 59-60", "16 BadGaps", ["gap 1, 59-60, " + PAST + "59 bits"]),
     (b"0000", "list --burst 6", "1 BurstRange", []),
     (
         b"1234 2540 5244 5320\r\n \r\n1234 2540 5244 532\r\n1234\t254052445320\nnone",
@@ -52,6 +55,13 @@ CASES = [
 @pytest.mark.parametrize("data, words, error, told", CASES)
 def test_tells_where(data: bytes, words: str, error: str, told: List[str]) -> None:
     assert why(data, *words.split()) == (1, "\n".join([f"refused {error}", *told, ""]))
+
+
+@pytest.mark.parametrize("words", ["--hex --hex", "--hex --soft"])
+def test_a_usage_error_is_that_of_rds(words: str) -> None:
+    """The input is no text, nor symbols that are looked at."""
+    status, said = why(b"\x80\xff", "list", *words.split())
+    assert status == 2 and said.startswith("error: ") and "cannot be used" in said
 
 
 def test_rds_that_refuses_before_it_has_read_all() -> None:
@@ -69,6 +79,12 @@ def with_blocks_e(count: int) -> bytes:
     return int(bits.ljust(-(-len(bits) // 8) * 8, "0"), 2).to_bytes(-(-len(bits) // 8), "big")
 
 
+def symbols_of(data: bytes) -> bytes:
+    """Symbols of both signs, two of which differ in sign by a bit 1. A zero counts as negative."""
+    signs = numpy.cumsum([0, *numpy.unpackbits(numpy.frombuffer(data, "u1"))]) % 2
+    return bytes(numpy.where(signs == 1, 7, numpy.arange(len(signs)) % 3 - 2).astype("i1").tobytes())
+
+
 @pytest.mark.parametrize("count, groups", [(4, 39), (8, 39), (12, 0)])
 def test_blocks_with_offset_word_e(count: int, groups: int) -> None:
     """Ten in a row lose sync, so no group is whole; by the option that is told, all but the first are."""
@@ -78,6 +94,7 @@ def test_blocks_with_offset_word_e(count: int, groups: int) -> None:
         f"{40 * count} of the blocks in the first {8 * len(data)} bits have offset word E"
     )
     assert why(data.hex().encode(), "list", "--hex") == (status, told)
+    assert why(symbols_of(data), "list", "--soft") == (status, told)
     for words, whole in (([], groups), (["--loss", "64"], 39)):
         assert f"total,complete,{whole}," in rds("list", *words, data=data).decode()
     assert "--loss 64" in told
@@ -109,6 +126,7 @@ def test_the_first_four_million_bits_are_looked_at() -> None:
     assert len(first_bits(["list"], bytes((1 << 19) + 9))) == 1 << 22
     assert len(first_bits(["list", "--hex"], b"0" * ((1 << 20) + 9))) == 1 << 22
     assert len(first_bits(["list", "--hex"], b"0 " * (1 << 20))) == 1 << 21
+    assert len(first_bits(["list", "--soft"], bytes((1 << 22) + 9))) == 1 << 22
 
 
 def test_no_program() -> None:

@@ -608,7 +608,8 @@ class Follower:
 
     @property
     def stream(self) -> bytes:
-        """The state of the stream, 256 bytes. They can be stored, and are equal if the same bytes were heard."""
+        """The state of the stream, 256 bytes: zeros before the first push. They can be stored, and after it are equal if the same bytes
+        were heard."""
         with self._lock:
             return bytes(self._stream)
 

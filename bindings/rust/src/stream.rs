@@ -53,7 +53,8 @@ impl From<Refused> for ReadError {
 const BYTES: usize = std::mem::size_of::<RdsStream>();
 
 impl RdsStream {
-    /// The state as bytes, in the processor's byte order. They can be stored, and are equal if the same bytes were heard.
+    /// The state as bytes, in the processor's byte order: zeros before the first push. They can be stored, and after it are equal if the same
+    /// bytes were heard.
     ///
     /// ```
     /// let (rules, mut follower) = (rds::Rules::default(), rds::Follower::new(&rds::Rules::default(), &[])?);
