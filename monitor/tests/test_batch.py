@@ -4,6 +4,7 @@ from __future__ import annotations
 
 import fcntl
 import getpass
+import json
 import os
 import shutil
 import signal
@@ -19,7 +20,7 @@ import numpy
 import pytest
 from conftest import COMMAND, PROGRAM, STATION, TOP, encode, monitor, ran, rds
 from made import run
-from modulator import mpx, stored, wav, words
+from modulator import iq, mpx, stored, wav, words
 
 from rds_monitor.batch import WORK, BatchRun, Job
 
@@ -127,6 +128,17 @@ def test_signals_are_demodulated(folders: Any) -> None:
     assert done.returncode == 1
     assert "cut.wav: failed: rds-monitor demod: the WAV file ends within its header" in done.stderr
     assert listings(folders[1])["mpx.csv"].count(b"\ngroup,") >= 23
+
+
+def test_recordings_of_sigmf(folders: Any) -> None:
+    """The description beside a recording is found, though the jobs know the recording by a number."""
+    data = stored(iq(mpx(encode(words(8, 24)), 256000), 256000, cnr=40), "s16")
+    (folders[0] / "it.sigmf-data").write_bytes(data)
+    told = {"global": {"core:datatype": "ci16_le", "core:sample_rate": 256000}}
+    (folders[0] / "it.sigmf-meta").write_text(json.dumps(told))
+    done = monitor("batch", "--suffix", ".sigmf-data", "--demod", "", *folders)
+    assert done.returncode == 0, done.stderr
+    assert listings(folders[1])["it.csv"].count(b"\ngroup,") >= 22
 
 
 # ---- jobs that fail, and how a listing comes into its place

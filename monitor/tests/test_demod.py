@@ -7,7 +7,10 @@ import io
 import json
 import os
 import re
+import signal as signals
 import struct
+import subprocess
+import sys
 from pathlib import Path
 from types import SimpleNamespace
 from typing import Any, Dict, List, Tuple
@@ -102,6 +105,15 @@ def test_blocks_of_any_length() -> None:
     signal = mpx(SENT, RATE, snr=3)
     whole = received(signal, block=signal.size)[0]
     assert received(signal, block=4001)[0] == whole == received(signal, block=100000)[0]
+
+
+def test_blocks_of_any_length_when_the_signal_fades() -> None:
+    """A file is read in longer blocks than a pipe. Two seconds of noise in each four."""
+    signal = mpx(encode(words(3, 150)), RATE, snr=5, clock_offset=60, carrier_offset=2)
+    noise = 0.35 * numpy.random.default_rng(3).standard_normal(signal.size)
+    signal = numpy.where(numpy.arange(signal.size) / RATE % 4 < 2, signal, noise)
+    one, *others = (bits_of(Capture(RATE), signal, block)[0] for block in (65536, 262144, signal.size))
+    assert all(numpy.array_equal(one, other) for other in others)
 
 
 def test_groups_on_both_sides_of_silence_and_of_noise() -> None:
@@ -497,6 +509,56 @@ def test_flac(signal: Array, tmp_path: Any) -> None:
     assert demodulated(tmp_path / "mpx.flac") == GROUPS[1:]
 
 
+def test_flac_that_is_cut_off(signal: Array, tmp_path: Any) -> None:
+    """What is there is read, then there is a fault, as of WAV."""
+    soundfile = pytest.importorskip("soundfile")
+    soundfile.write(tmp_path / "whole.flac", signal / 3, 192000)
+    (tmp_path / "cut.flac").write_bytes((tmp_path / "whole.flac").read_bytes()[:-100_000])
+    whole, cut = (monitor("demod", tmp_path / f"{name}.flac") for name in ("whole", "cut"))
+    assert (
+        cut.returncode == 1
+        and b"the file is cut off: it has " in cut.stderr
+        and b"Traceback" not in cut.stderr
+    )
+    assert len(cut.stdout) > 0.7 * len(whole.stdout) and whole.stdout.startswith(cut.stdout[:-12])
+
+
+def test_flac_that_does_not_say_how_long_it_is(signal: Array, tmp_path: Any) -> None:
+    """As of a pipe: the number of samples, the last 36 bits before the checksum of the header, is 0."""
+    soundfile = pytest.importorskip("soundfile")
+    soundfile.write(tmp_path / "mpx.flac", signal / 3, 192000)
+    data = bytearray((tmp_path / "mpx.flac").read_bytes())
+    data[21:26] = bytes([data[21] & 0xF0, 0, 0, 0, 0])
+    (tmp_path / "mpx.flac").write_bytes(data)
+    assert demodulated(tmp_path / "mpx.flac") == GROUPS[1:]
+
+
+def test_wav_of_sox_does_not_say_how_long_it_is(signal: Array) -> None:
+    """Into a pipe it writes a length of 0x7FFFF000 bytes, or of the whole frames in it."""
+    data = wav(stored(signal, "s16"), "s16", 192000)
+    assert demodulated(data=data[:40] + struct.pack("<I", 0x7FFFF000) + data[44:]) == GROUPS[1:]
+    header = wav(b"", "s24", 192000)[:40] + struct.pack("<I", 0x7FFFF000 // 3 * 3)
+    assert wav_layout(io.BytesIO(header)).length is None
+
+
+def test_a_length_that_has_no_room_in_a_header(file: Any, monkeypatch: pytest.MonkeyPatch) -> None:
+    """Of a file longer than 4 GiB, here of 1,000 bytes, it is what is left of that. A chunk after the samples is none of them."""
+    monkeypatch.setattr(samples, "WRAPPED", 1000)
+    data = wav(bytes(2500), "s16", 192000) + b"LIST" + struct.pack("<I", 200) + bytes(200)
+    path = file(data[:40] + struct.pack("<I", 500) + data[44:])
+    source = open_samples(path, raw=None, rate=None, channel=None, is_iq=False)
+    assert sum(map(len, source.blocks())) == 1250
+
+
+@pytest.mark.parametrize("offset", ["nan", "inf", "128000", "316000", "98100000"])
+def test_an_offset_outside_of_the_band(offset: str, radio: Array) -> None:
+    """Beyond half of the sample rate an offset would be that of another station."""
+    data = stored(radio, "u8")
+    done = monitor("demod", "--raw", "u8", "--iq", "--rate", 256000, "--offset", offset, data=data)
+    fault = f"--offset {float(offset):.10g} is not in the band, which has 128000 Hz on both sides"
+    assert done.returncode == 1 and fault in done.stderr.decode() and done.stdout == b""
+
+
 def test_wav_from_a_pipe_does_not_say_how_long_it_is(signal: Array) -> None:
     data = wav(stored(signal, "s16"), "s16", 192000)
     assert demodulated(data=data[:40] + b"\xff" * 4 + data[44:]) == GROUPS[1:]
@@ -565,6 +627,40 @@ def test_six_seconds_are_kept_to_find_the_rate() -> None:
         capture: Any = SimpleNamespace(receivers=[receiver], push=lambda of: none, finish=lambda: none)
         teller = QualityLine(argparse.Namespace(json=False, every=None), io.StringIO())
         assert receive(source, capture, BitWriter("-", True), teller).size == size
+
+
+def test_an_interrupt_waits_for_the_end_of_a_block() -> None:
+    """Ctrl-C within it: its bits are written, and no further block is read."""
+    source: Any = SimpleNamespace(rate=10, blocks=lambda: iter([numpy.ones(10)] * 8))
+    pushed: List[int] = []
+
+    def push(of: Array) -> List[Array]:
+        os.kill(os.getpid(), signals.SIGINT)
+        pushed.append(of.size)
+        return [numpy.ones(8, "u1")]
+
+    quality = SimpleNamespace(locked=0.0, seconds=0.0, report=lambda: {"locked": 0.0, "seconds": 0.0})
+    receiver = SimpleNamespace(quality=quality, is_soft=False)
+    capture: Any = SimpleNamespace(receivers=[receiver], push=push, finish=lambda: [numpy.zeros(0, "u1")])
+    writer = BitWriter(os.devnull, True)
+    teller = QualityLine(argparse.Namespace(json=False, every=None), io.StringIO())
+    # A worker of pytest may ignore it.
+    before = signals.signal(signals.SIGINT, signals.default_int_handler)
+    try:
+        with pytest.raises(KeyboardInterrupt):
+            receive(source, capture, writer, teller)
+    finally:
+        signals.signal(signals.SIGINT, before)
+    assert (pushed, writer.written) == ([10], 8)
+
+
+def test_a_file_without_standard_input(signal: Array, file: Any) -> None:
+    path = file(stored(signal, "s16"))
+    done = subprocess.run(
+        ["sh", "-c", '"$@" <&-', "sh", sys.executable, "-m", "rds_monitor", "demod", *map(str, S16), path],
+        capture_output=True,
+    )
+    assert done.returncode == 0 and whole_groups(done.stdout) == GROUPS[1:]
 
 
 def test_when_reports_are_due() -> None:

@@ -220,6 +220,19 @@ def test_signals(name: str, form: str, signal: Array, radio: Array, tmp_path: Pa
     assert int(rds("totals", data=shell(cure, tmp_path)).split(b"total,complete,")[1].split(b",")[0]) >= 45
 
 
+@pytest.mark.parametrize("rate", [100000, 110250, 124000, 20000001])
+def test_a_rate_that_is_not_demodulated(rate: int, tmp_path: Path) -> None:
+    """No command is named that would refuse it."""
+    (tmp_path / "it").write_bytes(wav(bytes(2 * rate), "s16", rate))
+    done = monitor("form", tmp_path / "it")
+    assert done.returncode == 1 and f"a sample rate of {rate} is not 128000 to" in done.stderr.decode()
+
+
+def test_a_signal_that_is_cut_off(signal: Array, tmp_path: Path) -> None:
+    (tmp_path / "it").write_bytes(wav(stored(signal, "s16"), "s16", 192000)[:-1000])
+    assert forms(tmp_path / "it")[0][2].startswith("rds-monitor demod ")
+
+
 def test_a_wav_file_of_100_khz_is_a_signal(tmp_path: Path, monkeypatch: pytest.MonkeyPatch) -> None:
     """Its first ten seconds are looked at."""
     (tmp_path / "it").write_bytes(wav(bytes(8), "s16", 100000))

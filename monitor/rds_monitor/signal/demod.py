@@ -13,7 +13,7 @@ from .outputs import QualityLine, report_of
 from .pack import BitWriter
 from .rates import likely_rate
 from .receiver import RATES, Capture
-from .samples import RAW_FORMS, SampleSource, Signal, open_samples
+from .samples import RAW_FORMS, SampleSource, Signal, open_samples, uninterrupted
 from .several import run_stations
 
 SECONDS_KEPT = 6  # of the signal, to find its rate if there is no RDS
@@ -122,19 +122,22 @@ def no_rds(source: SampleSource, beginning: Signal, offset: float) -> Fault:
 def receive(source: SampleSource, capture: Capture, writer: BitWriter, teller: QualityLine) -> Signal:
     """Writes the bits of the signal, and gives its first seconds if there was no RDS in them. After a fault, or when
     interrupted, the bits up to there are written too."""
-    beginning: List[Signal] = [numpy.zeros(0)]
+    beginning: List[Signal] = []
     (receiver,) = capture.receivers
     try:
         for samples in source.blocks():
-            if not receiver.quality.locked and sum(map(len, beginning)) < SECONDS_KEPT * source.rate:
+            if receiver.quality.locked:
+                beginning.clear()
+            elif sum(map(len, beginning)) < SECONDS_KEPT * source.rate:
                 beginning.append(samples)
-            writer.push(capture.push(samples)[0])
+            with uninterrupted():
+                writer.push(capture.push(samples)[0])
             teller.tell(receiver.quality.seconds, partial(report_of, receiver, writer.written))
     finally:
         writer.push(capture.finish()[0], last=True)
         if writer.written:
             teller.end(report_of(receiver, writer.written))
-    return numpy.concatenate(beginning)
+    return numpy.concatenate(beginning or [numpy.zeros(0)])
 
 
 def run_demod(arguments: argparse.Namespace) -> int:
@@ -142,6 +145,10 @@ def run_demod(arguments: argparse.Namespace) -> int:
     source = open_signal(arguments, arguments.channel, arguments.iq)
     if arguments.stations:
         return run_stations(source, arguments)
+    if not abs(arguments.offset) < source.rate / 2:
+        raise Fault(
+            f"--offset {arguments.offset:.10g} is not in the band, which has {source.rate / 2:.10g} Hz on both sides"
+        )
     offsets = [arguments.offset]
     equalised = offsets if source.is_iq and not arguments.no_equaliser else []
     capture = Capture(source.rate, source.is_iq, source.full_scale, offsets, equalised, arguments.soft)

@@ -15,6 +15,7 @@ from ..rows.heads import is_listing
 from ..rows.items import Fault
 from .pack import NAMES, SYMBOLS, Conversion, bits_of, packed_of
 from .rates import likely_rate, locked
+from .receiver import RATES
 from .samples import Layout, Signal, StoredSamples, beginning_of, open_samples, wav_layout
 from .symbols import Bits
 
@@ -119,6 +120,12 @@ def as_raw_signal(path: str) -> List[Found]:
     return []
 
 
+def readable(blocks: Iterator[Signal]) -> Iterator[Signal]:
+    """The blocks of a file that may be cut off."""
+    with suppress(Fault):
+        yield from blocks
+
+
 def as_file_signal(path: str) -> List[Found]:
     """MPX or IQ in a WAV or FLAC file: one of its channels, or two as I and Q."""
     with open(path, "rb") as file:
@@ -131,7 +138,11 @@ def as_file_signal(path: str) -> List[Found]:
     found = []
     for channel in [*range(1, count + 1), *([None] if count == 2 else [])]:
         source = open_samples(path, raw=None, rate=None, channel=channel, is_iq=channel is None)
-        samples = numpy.concatenate([numpy.zeros(0), *beginning_of(source.blocks(), 10 * source.rate)])
+        samples = numpy.concatenate(
+            [numpy.zeros(0), *beginning_of(readable(source.blocks()), 10 * source.rate)]
+        )
+        if source.rate not in RATES:
+            raise Fault(f"a sample rate of {source.rate} is not {RATES[0]} to {RATES[-1]}")
         share, bits = locked(samples, source.rate)
         if share > 0.3:
             which = " --iq" if channel is None else f" --channel {channel}" if count > 1 else ""

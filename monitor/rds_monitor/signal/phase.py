@@ -51,22 +51,20 @@ class PhaseTrack:
         back = numpy.exp(-1j * turn[:, None] * numpy.arange(-self._reach, self._reach + 1)) * self._near
         sums = (windows * back).sum(axis=1)
         coherence = numpy.abs(sums) / self._near.sum()
-        turns = turn[coherence >= self._least]
-        if turns.size:
-            # The mean turn of the last thousand coherent steps or so.
-            self._seen = min(1000.0, self._seen + turns.size)
-            self._usual += (float(turns.mean()) - self._usual) * min(1.0, turns.size / self._seen)
         return Phases(self._unwrapped(numpy.angle(sums), turn, coherence), turn, coherence)
 
     def _unwrapped(self, angles: Reals, turns: Reals, coherence: Reals) -> Reals:
         phases = []
-        phase, usual = self._phase, self._usual
+        phase = self._phase
         for angle, turn, sure in zip(angles.tolist(), turns.tolist(), (coherence >= self._least).tolist()):
             if sure:
                 phase += turn
                 phase += math.remainder(angle - phase, math.tau)
+                # The mean turn of the last thousand coherent steps or so, step by step, so that chunks do not matter.
+                self._seen = min(1000.0, self._seen + 1)
+                self._usual += (turn - self._usual) / self._seen
             else:
-                phase += usual
+                phase += self._usual
             phases.append(phase)
         self._phase = phase
         return numpy.array(phases)

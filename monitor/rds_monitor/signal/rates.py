@@ -20,6 +20,7 @@ TRIED = 6
 
 def _spectrum(samples: Signal) -> Reals:
     """The mean power of MPX by frequency, or of IQ's phase steps."""
+    samples = samples[: 16 * BLOCK + 1]
     if numpy.iscomplexobj(samples):
         samples = numpy.angle(samples[1:] * samples[:-1].conj())
     count = min(16, samples.size // BLOCK)

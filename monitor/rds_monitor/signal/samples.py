@@ -2,8 +2,10 @@
 
 import importlib
 import os
+import signal
 import struct
 import sys
+from contextlib import contextmanager, suppress
 from dataclasses import dataclass
 from typing import Any, BinaryIO, Iterator, List, Optional, Tuple, Union
 
@@ -19,6 +21,7 @@ Signal = NDArray[Any]
 
 FRAMES_PER_BLOCK = 1 << 16  # of a pipe, so that what comes live is not late
 FRAMES_OF_FILE = 1 << 18
+UNKNOWN_FRAMES = 1 << 36  # of FLAC: more than its header can say
 LARGEST_SAMPLE = 1e12  # well above that of any integer form
 # Bytes per sample and full scale of each sample form, low byte first.
 FORMS = {"u8": (1, 128.0), "s8": (1, 128.0), "s16": (2, 2.0**15), "s24": (3, 2.0**31)}
@@ -29,6 +32,8 @@ WAV_FORMS = {(1, 8): "u8", (1, 16): "s16", (1, 24): "s24", (1, 32): "s32", (3, 3
 WAV_EXTENSIBLE = 0xFFFE
 LONGEST_CHUNK = 1 << 16  # of a header that is looked at
 UNKNOWN_LENGTH = (0, 0xFFFFFFFF)  # written if the length was not known, as into a pipe, or is in a chunk ds64
+UNKNOWN_BY_SOX = 0x7FFFF000  # or the whole frames in it
+WRAPPED = 1 << 32  # lengths are modulo this if a program does not mind that a file is longer
 
 
 @dataclass
@@ -45,6 +50,22 @@ class Layout:
     def frame(self) -> int:
         """Bytes of one sample of each channel."""
         return self.channels * FORMS[self.form][0]
+
+
+@contextmanager
+def uninterrupted() -> Iterator[None]:
+    """Ctrl-C waits until a block is done: the bits of half a block would be wrong."""
+    came: List[int] = []
+    before = signal.getsignal(signal.SIGINT)
+    if before is signal.default_int_handler:
+        signal.signal(signal.SIGINT, lambda number, _: came.append(number))
+    try:
+        yield
+    finally:
+        if before is signal.default_int_handler:
+            signal.signal(signal.SIGINT, before)
+    if came:
+        raise KeyboardInterrupt
 
 
 def beginning_of(blocks: Iterator[Signal], wanted: float) -> List[Signal]:
@@ -89,8 +110,18 @@ def wav_layout(stream: BinaryIO) -> Layout:
         raise Fault(f"WAV samples of format {code} with {width} bits are not read: {read}")
     if channels == 0:
         raise Fault("the WAV file has no channel")
-    known = None if length in UNKNOWN_LENGTH else length
-    return Layout(rate, channels, WAV_FORMS[code, width], long_length or known, centre)
+    layout = Layout(rate, channels, WAV_FORMS[code, width], centre=centre)
+    by_sox = UNKNOWN_BY_SOX // layout.frame * layout.frame
+    known = None if length in (*UNKNOWN_LENGTH, by_sox) else length
+    layout.length = long_length or known
+    return layout
+
+
+def _wrapped(stream: BinaryIO, length: int) -> int:
+    """By how much the samples of a file are longer than a length of 32 bits says: no chunk after them is as long."""
+    here, size = stream.tell(), stream.seek(0, os.SEEK_END)
+    stream.seek(here)
+    return max(0, size - here - length) // WRAPPED * WRAPPED
 
 
 def _exactly(stream: BinaryIO, length: int) -> bytes:
@@ -185,6 +216,7 @@ class Flac:
         except ImportError:
             cure = "install Debian's package python3-soundfile"
             raise Fault(f"FLAC needs the Python module soundfile: {cure}") from None
+        self._errors = soundfile.SoundFileError
         try:
             self._file: Any = soundfile.SoundFile(path)
         except soundfile.SoundFileError as error:
@@ -193,8 +225,18 @@ class Flac:
         self._channels = chosen_channels(self._file.channels, channel, is_iq)
 
     def blocks(self) -> Iterator[Signal]:
-        for frames in self._file.blocks(FRAMES_PER_BLOCK, always_2d=True):
-            yield channels_of(frames, self._channels)
+        """The samples up to the end, or to a fault if the file is cut off. One that was written into a pipe does not say its length."""
+        count, length, read = FRAMES_PER_BLOCK, self._file.frames, 0
+        while count == FRAMES_PER_BLOCK:
+            frames = numpy.full((FRAMES_PER_BLOCK, self._file.channels), numpy.nan)
+            # An error does not say how many frames were read.
+            with suppress(self._errors):
+                self._file.read(out=frames)
+            count = int(numpy.isfinite(frames[:, 0]).sum())
+            read += count
+            yield channels_of(frames[:count], self._channels)
+        if read < length < UNKNOWN_FRAMES:
+            raise Fault(f"the file is cut off: it has {read} of the {length} samples that its header says")
 
 
 # A signal: its sample rate, whether it is IQ, the sample of full scale, the frequency of the centre if known, and samples by the block.
@@ -221,10 +263,11 @@ def open_samples(
     path: str, *, raw: Optional[str], rate: Optional[int], channel: Optional[int], is_iq: bool
 ) -> SampleSource:
     """The signal in a file, or on standard input if the path is -. A rate overrides that of a header."""
-    sigmf = sigmf_of(path)
+    sigmf = sigmf_of(path) or sigmf_of(os.path.realpath(path))
     path, named = sigmf.data if sigmf else path, None if path == "-" else centre_in_name(path)
-    stream: BinaryIO = sys.stdin.buffer
-    if path != "-":
+    if path == "-":
+        stream: BinaryIO = sys.stdin.buffer
+    else:
         try:
             stream = open(path, "rb")
         except OSError as error:
@@ -245,6 +288,8 @@ def open_samples(
             flac.rate = rate or flac.rate
             return flac
     layout = wav_layout(stream)
+    if layout.length is not None and stream.seekable():
+        layout.length += _wrapped(stream, layout.length)
     channels = chosen_channels(layout.channels, channel, is_iq)
     layout.rate, layout.centre = rate or layout.rate, named if layout.centre is None else layout.centre
     return StoredSamples(stream, layout, channels)

@@ -16,7 +16,7 @@ from .found import HALF_CHANNEL_HZ, SETTLED, Spectrum, candidates, is_inside, sp
 from .outputs import QualityLine, report_of
 from .pack import BitWriter, Packer
 from .receiver import Capture, Receiver
-from .samples import SampleSource, Signal, beginning_of
+from .samples import SampleSource, Signal, beginning_of, uninterrupted
 from .symbols import Bits
 
 SPECTRUM_SECONDS = 0.5  # of the beginning, in which stations are looked for
@@ -133,7 +133,8 @@ class TunedStations:
         try:
             for samples in chain(first, blocks):
                 self.seconds += samples.size / self._source.rate
-                self._push(self._capture.push(samples))
+                with uninterrupted():
+                    self._push(self._capture.push(samples))
                 for station in () if self._waits else self.stations:
                     each(station)
                 if self._waits and self._capture.receivers[0].quality.received.bits >= SETTLED:
