@@ -214,6 +214,11 @@ CASES: Dict[str, Case] = {
             "eon:D312.mapped:88.0.am": 153,
         },
     ),
+    "14A: a frequency that is mapped to several": Case(
+        3 * [eon(5, 0x6A96), eon(8, 0x6AA5), eon(6, 0x6A9B), eon(7, 0x6AA0)],
+        {"eon:D312.mapped:98.1": [102500, 103000, 103500, 104000]},
+        texts={"eon:D312.mapped:98.1": "102.5 103.0 103.5 104.0"},
+    ),
     "14A: linkage": Case(
         [eon(12, 0xC123), eon(12, 0x4123, 0xD313)],
         {
@@ -287,6 +292,10 @@ CASES: Dict[str, Case] = {
     "RT+ of tags that begin alike, and of others that end alike": Case(
         [RT_PLUS, *SONG, tags(1, 1, TITLE, (2, 0, 13)), tags(1, 1, ARTIST, (2, 0, 13))],
         {**TAGGED, "rt_plus:item.album": "Song by Singer"},
+    ),
+    "RT+ of another item": Case(
+        [RT_PLUS, *SONG, tags(0, 1, TITLE, ARTIST), *text(b"Other words\r", 1), tags(1, 1, (1, 0, 4))],
+        {"rt_plus:item.title": "Other", "rt_plus:item.artist": None},
     ),
     "RT+ of two tags of one class": Case(
         [RT_PLUS, *text(b"Anna and Berta\r"), tags(1, 1, (4, 0, 3), (4, 9, 4))],
@@ -488,6 +497,14 @@ SEQUENCES: Dict[str, Tuple[List[Words], str, List[Any]]] = {
         *(3 * text(b"Abcdefgh") + 3 * text(b"Abcd"), "rt"),
         ["Abcdefgh", "Abcd"],
     ),
+    "a text without an end that grows": (
+        *(6 * text(b"Abcdefgh") + 6 * text(b"AbcdefghIjkl"), "rt"),
+        ["Abcdefgh", "AbcdefghIjkl"],
+    ),
+    "a long-lasting text without an end that grows": (
+        *(900 * text(b"Abcdefgh") + 900 * text(b"AbcdefghIjkl"), "rt"),
+        ["Abcdefgh", "AbcdefghIjkl"],
+    ),
     "a text after a turned flag": (A_B_C + A_B_D[2:] + A_B_D, "rt", ["AAAABBBBCCCC", "AAAABBBBDDDD"]),
     "half a text after a turned flag": (A_B_C + A_B_D[2:], "rt", ["AAAABBBBCCCC"]),
     "a text that changes without a flag": (
@@ -539,6 +556,10 @@ SEQUENCES: Dict[str, Tuple[List[Words], str, List[Any]]] = {
         name(b"PAXO 318")[:2] + name(b"PAXO 318", kind="0B")[2:],
         "ps",
         ["PAXO 318"],
+    ),
+    "a frequency that is mapped to two": (
+        *(9 * [eon(5, 0x6A96), eon(6, 0x6A9B)], "eon:D312.mapped:98.1"),
+        [102500, [102500, 103000]],
     ),
     "names of two networks": (name(b"PAXO 318") + eon_name(b"OTHER FM"), "ps", ["PAXO 318"]),
 }
@@ -711,6 +732,10 @@ LISTS = {
         [[87700], [87800], [88000], [87900]],
     ),
     "method A grows": (5 * A + 5 * [0xE60A, 0x1E32, 0x465A, 0x64CD], [ALL_OF_A, [*ALL_OF_A, 97500]]),
+    "method A grows and comes back": (
+        10 * A + 10 * [0xE60A, 0x1E32, 0x465A, 0x64CD] + 10 * A,
+        [ALL_OF_A, [*ALL_OF_A, 97500], ALL_OF_A],
+    ),
     "method B changes one entry": (10 * B + 10 * B_CHANGED + 10 * B, [ALL_OF_B, ALL_B_CHANGED, ALL_OF_B]),
     # In chunks of four the second pair comes in another one than its head.
     "method B of two transmitters, of which a pair has both": (
@@ -761,6 +786,16 @@ def test_another_method_replaces_the_list() -> None:
         events = events_of([group("0A", 8, pair, 0) for pair in pairs])
         held = {event.item: event.value for event in events}
         assert (held["af"], held["af:89.3"]) == (of_a, of_b)
+
+
+def test_a_list_comes_back_after_one_of_another_method() -> None:
+    """Of two transmitters by method B, of which each has its list."""
+    by_two, told_of_two = [*B, *OTHER], [ALL_OF_B, by_b(89000, [95000])]
+    for size in (1, 4, 61, 999):
+        found = [
+            value for value in lists(10 * by_two + 10 * A + 10 * by_two + 10 * A, size) if value is not None
+        ]
+        assert found == 2 * [*told_of_two, ALL_OF_A]
 
 
 def test_a_wrong_pair_does_not_stay() -> None:

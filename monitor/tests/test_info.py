@@ -57,6 +57,11 @@ def test_changes_as_csv() -> None:
     assert {row["pi"] for row in found} == {"D318"}
 
 
+def test_an_item_that_is_not_sent_any_more_has_an_empty_value() -> None:
+    found = rows(said("info", "--csv", data=bits(label(0, 0xE0, 15 << 11 | 20 << 6 | 30), label(0, 0xE0))))
+    assert [row["value"] for row in found if row["item"] == "pin"] == ["15 20:30", ""]
+
+
 def test_csv_and_json_and_listing_agree() -> None:
     data = bits(*STATION_GROUPS)
     table = rows(said("info", "--csv", data=data))

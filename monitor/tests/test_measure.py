@@ -435,3 +435,9 @@ def test_counts_are_those_of_the_totals(station: bytes) -> None:
         # A block that begins before the end and is cut there was not sent whole.
         assert sums[0] == sum(sums[1:]) and sums[0] in (8 * len(data) // 26, 8 * len(data) // 26 + 1)
         assert sum(int(row[2]) + int(row[3]) for row in types) == totals["groups"]
+
+
+def test_times_of_intervals_with_a_part_of_a_second(station: bytes) -> None:
+    for words in ("errors --every 1.5", "types --every 1.5"):
+        found = {tuple(row.split(",")[:2]) for row in said(*words.split(), data=station)[1:]}
+        assert {("0.000", "1.500"), ("1.500", "3.000")} <= found

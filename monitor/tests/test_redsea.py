@@ -81,6 +81,13 @@ def test_lines_of_in_house_data_are_not_remembered() -> None:
     assert ["in_house_data" in line for line in found[: len(sent)]] == [k in (10, 26) for k in range(36)]
 
 
+def test_a_list_of_the_first_transmitter_that_changes_is_written() -> None:
+    """By method B, after that of the second one."""
+    pairs = [0xE312, 0x1278, 0xE30F, 0x0F4B] * 5 + [0xE312, 0x127D, 0xE30F, 0x0F4B] * 5
+    found = lines(rows_of([group("0A", k % 4, pair, 0x2020) for k, pair in enumerate(pairs)]), [])
+    assert '"tuned_frequency":89300,"same_programme":[100000]' in [*found][-1]
+
+
 def test_a_text_that_is_whole_again_at_once_is_written() -> None:
     """Two turns tell how long it is. Signs after that end it, and all of it has come in this turn."""
     found = lines(rows_of([*name(b"NAME"), *6 * text(b"Hi.."), text(b"Hi..more")[1]]), [])

@@ -87,7 +87,8 @@ def run_info(arguments: argparse.Namespace) -> int:
 
 def row_of(event: Event, clock: Clock) -> List[str]:
     """The fields of a change, in which nothing can move a terminal's cursor."""
-    shown = f"{clock.seconds(event.place):.3f}", f"{event.pi:04X}", event.item, printable(event.text)
+    text = "" if event.value is None else printable(event.text)
+    shown = f"{clock.seconds(event.place):.3f}", f"{event.pi:04X}", event.item, text
     return [*shown, str(event.place), *clock.utc(event.place)]
 
 

@@ -35,8 +35,11 @@ ODA_MESSAGE  3A         oda.message  oda.aid        -          -                
 ERT_CODING   3A         ert.coding   -              -          oda.aid=0x6552     -
 EON_TP       14A,14B    eon.tp       -              eon.pi     -                  -
 EON_AF       14A        eon.data     eon.data       eon.pi     eon.variant=4      -
-EON_MAPPED   14A        eon.mapped   eon.tuned      eon.pi     eon.variant=5,6,7,8 -
-EON_MAPPED   14A        eon.mapped   eon.tuned+256  eon.pi     eon.variant=9      -
+EON_MAPPED   14A        eon.mapped   eon.tuned      eon.pi     eon.variant=9      -
+EON_MAPPED   14A        eon.mapped   eon.tuned+256  eon.pi     eon.variant=5      -
+EON_MAPPED   14A        eon.mapped   eon.tuned+512  eon.pi     eon.variant=6      -
+EON_MAPPED   14A        eon.mapped   eon.tuned+768  eon.pi     eon.variant=7      -
+EON_MAPPED   14A        eon.mapped   eon.tuned+1024 eon.pi     eon.variant=8      -
 EON_LINKAGE  14A        eon.linkage  -              eon.pi     eon.variant=12     -
 EON_PTY      14A        eon.pty      -              eon.pi     eon.variant=13     -
 EON_TA       14A        eon.ta13     -              eon.pi     eon.variant=13     -

@@ -62,6 +62,11 @@ class FrequencyList:
         self._list = self._found()
         return self._list
 
+    @property
+    def is_by_a(self) -> bool:
+        """Whether it is complete and by method A."""
+        return isinstance(self._list, list)
+
     def _belongs(self, pair: int) -> bool:
         """Whether a pair has a frequency, and by method B that of the transmitter."""
         high, low = divmod(pair, 256)
@@ -124,9 +129,12 @@ class Frequencies(Taker):
             self._lists[message] = FrequencyList(message)
         found = self._lists[message].take(value)
         if isinstance(found, dict):
+            # A list by the other method, or another one by method A, is to be told again if it comes back.
+            self._lists = {head: known for head, known in self._lists.items() if not known.is_by_a}
             self._teller.drop({"af"} & self._teller.held.keys())
             self._tell(f"af:{megahertz(found['tuned'])}", found, _transmitter(found))
         elif found is not None:
+            self._lists = {message: self._lists[message]}
             self._teller.drop([item for item in self._teller.held if item.startswith("af:")])
             self._tell("af", found, _many(found))
 
@@ -140,6 +148,7 @@ class OtherNetworks(Taker):
         super().__init__(teller)
         self._rbds = rbds
         self._lists: Dict[int, FrequencyList] = {}
+        self._mapped: Dict[str, Dict[int, int]] = {}
 
     def take(self, kind: int, message: int, position: int, value: int) -> None:
         of = f"eon:{message:04X}"
@@ -170,11 +179,16 @@ class OtherNetworks(Taker):
             self._tell(f"{of}.af", found, _transmitter(found) if isinstance(found, dict) else _many(found))
 
     def _take_mapped(self, of: str, position: int, value: int) -> None:
-        """A frequency of the tuned network, and the one that belongs to it there; of medium wave in variant 9."""
-        is_medium = position > 0xFF
-        tuned, mapped = kilohertz(position & 0xFF), kilohertz(value, is_medium)
+        """A frequency of the tuned network, and one that belongs to it there: in variants 5 to 8 the first to the fourth,
+        which are told together, and in variant 9 that of medium wave."""
+        number = position >> 8
+        tuned, mapped = kilohertz(position & 0xFF), kilohertz(value, not number)
         if tuned and mapped:
-            self._tell(f"{of}.mapped:{megahertz(tuned)}" + ".am" * is_medium, mapped, megahertz(mapped))
+            item = f"{of}.mapped:{megahertz(tuned)}" + ".am" * (not number)
+            known = self._mapped.setdefault(item, {})
+            known[number] = mapped
+            found = list(dict.fromkeys(known[one] for one in sorted(known)))
+            self._tell(item, found if len(found) > 1 else mapped, _many(found))
 
     def _take_linkage(self, of: str, value: int) -> None:
         linked, extended, international = (bool(value & bit) for bit in (0x8000, 0x4000, 0x1000))

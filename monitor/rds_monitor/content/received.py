@@ -28,13 +28,17 @@ class FrequencyNews:
     """News in a list of alternative frequencies, which is sent over and over after its head.
 
     A pair is new if it has not come since its head came `GONE` times. After a new pair all pairs of the next `WINDOW`
-    turns are news; so are those of the first turns of every `REFRESH`, which bounds how long any mistake can last.
+    turns are news; so are those of the first turns of every `REFRESH`, which bounds how long any mistake can last. All is
+    news after another list.
     """
 
     GONE, WINDOW, REFRESH = 4, 8, 256
 
     def __init__(self) -> None:
-        self.head = -1
+        self.heads = numpy.array([-1, -1])  # the last two
+        self._forget()
+
+    def _forget(self) -> None:
         self.turns: Dict[int, int] = {}
         self.changed: Dict[int, int] = {}
         self.last: Dict[Tuple[int, int], int] = {}
@@ -43,16 +47,26 @@ class FrequencyNews:
         """The news, with the head of the list as the message in the key."""
         is_head = (counted.value >> 8 >= 224) & (counted.value >> 8 <= 249)
         recent = latest(is_head)
-        head = numpy.where(recent >= 0, counted.value[recent], self.head)
-        self.head = int(head[-1])
+        head = numpy.where(recent >= 0, counted.value[recent], self.heads[-1])
         chosen = numpy.zeros(head.size, bool)
-        # Pairs before any head are of none.
-        heads = head[steps_of(head, -1) != 0]
-        for one in numpy.unique(heads).tolist():
-            index = numpy.flatnonzero(head == one)
-            chosen[index] = self._news_of(one, counted.value[index]) | everything
+        others = self._others(counted.value[is_head], numpy.flatnonzero(is_head))
+        for part in numpy.split(numpy.arange(head.size), others):
+            if numpy.isin(part[:1], others).any():
+                self._forget()
+            # Pairs before any head are of none.
+            heads = head[part][steps_of(head[part], -1) != 0] if part.size else part
+            for one in numpy.unique(heads).tolist():
+                index = part[head[part] == one]
+                chosen[index] = self._news_of(one, counted.value[index]) | everything
         key = key_of(Kind.AF, head, counted.value)
         return News(key[chosen], counted.at[chosen], counted.value[chosen])
+
+    def _others(self, heads: Array, at: Array) -> Array:
+        """Where a list ends that came twice in a row, as by method A, and another begins. From there on all is news."""
+        heads = numpy.append(self.heads, heads)
+        self.heads = heads[-2:]
+        others: Array = at[(heads[2:] != heads[1:-1]) & (heads[1:-1] == heads[:-2])]
+        return others
 
     def _news_of(self, head: int, pairs: Array) -> Array:
         turn = self.turns.get(head, 0) + numpy.cumsum(pairs == head)

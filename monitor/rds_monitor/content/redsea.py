@@ -159,6 +159,7 @@ class Redsea:
             self._written.clear()
         for code in codes_of(TOLD_IN.get(name, "")):
             self._written.forget(code, *WRITTEN_IN.get(name, (0, 0)))
+        self._held.pop(event.item, None)  # of several lists the one that changed last is the last
         self._held[event.item] = event.value
         self._fresh.append(event.item)
 

@@ -76,6 +76,9 @@ class TaggedText(Taker):
             return
         self._last_tags = value
         toggle, running = fields_of("rtplus", value, "toggle running")
+        if self._teller.held.get(f"{self.prefix}_toggle", (toggle,))[0] != toggle:
+            # Another item has begun: nothing that was said of the one before is of it.
+            self._teller.drop([item for item in self._teller.held if item.startswith(f"{self.prefix}:item.")])
         self._tell(f"{self.prefix}_toggle", toggle)
         self._tell(f"{self.prefix}_running", bool(running))
         tags = tags_of(self.prefix, value)

@@ -302,8 +302,11 @@ class Message:
         other = turns.said.others(told, self._length == told.size)[turns.number[begin:end]]
         cuts = turns.restarts
         if cuts.size:
-            is_early = (turns.before[cuts] + 1) * self._shape.pairs < told.size
-            cuts = cuts[(cuts >= begin) & (cuts < end) & is_early]
+            cuts = cuts[(cuts >= begin) & (cuts < end)]
+            size = (turns.before[cuts] + 1) * self._shape.pairs
+            if not told.has_end:
+                other[cuts[size > told.size] - begin] = True
+            cuts = cuts[size < told.size]
         if cuts.size:
             other[cuts[~self._are_kept(turns, slice(begin, end), cuts, told)] - begin] = True
         first = int(other.argmax())
@@ -372,8 +375,11 @@ class Message:
             if values != told.said[segment] and told.differs(segment, values, is_length):
                 return row
             if segment <= before or is_missed:
-                is_cut = segment == 0 <= before and self._shape.is_text and (before + 1) * size < told.size
-                if is_cut and run == self._run:
+                is_whole = segment == 0 <= before and self._shape.is_text and run == self._run
+                # The turn ended before the text, or after it, where no end of text says that it may not.
+                if is_whole and (
+                    (before + 1) * size < told.size or (before + 1) * size > told.size and not told.has_end
+                ):
                     return row
                 self._next_turn()
                 now = self._now

@@ -118,6 +118,11 @@ def interval_of(text: str) -> float:
     return seconds
 
 
+def digits_of(seconds: float) -> int:
+    """How many decimals the times of intervals of this length have."""
+    return 0 if seconds == int(seconds) else 3
+
+
 def options_errors(parser: argparse.ArgumentParser) -> None:
     """Block errors over time, as CSV: per interval the blocks sent by the clock, those valid, corrected, uncorrectable (lost) and sent
     while there was no sync (no_sync), and how many per cent of those sent are not valid. Blocks corrected by soft decisions have a column
@@ -137,7 +142,11 @@ def run_errors(arguments: argparse.Namespace) -> int:
         errors.add(rows)
     is_soft, names = extent.is_soft, "begin_s end_s sent valid corrected lost no_sync bad_percent".split()
     lines = (
-        [*clock.texts(*one[:2], digits=0), *one.counts(is_soft), *clock.utc(*one[:2])]
+        [
+            *clock.texts(*one[:2], digits=digits_of(arguments.every)),
+            *one.counts(is_soft),
+            *clock.utc(*one[:2]),
+        ]
         for one in errors.intervals(extent.begin, extent.end)
     )
     names[5:5] = ["soft"] if is_soft else []

@@ -10,7 +10,7 @@ from ..rows.extent import Extent, write_table
 from ..rows.inputs import input_options, open_input
 from ..rows.items import BLOCKS, CORRECTED, GROUP, UNKNOWN_TYPE, VALID, Rows, burst_lengths
 from ..rows.listing import OFFSET_NAMES, ends_of, groups_in, kinds_of, places_of
-from .errors import interval_of
+from .errors import digits_of, interval_of
 
 
 class Stretch(NamedTuple):
@@ -148,7 +148,11 @@ def run_types(arguments: argparse.Namespace) -> int:
     if arguments.every is not None:
         bits = arguments.every * clock.rate
         rows = (
-            [*clock.texts(begin, begin + bits, digits=0), *mix.row(kind), *clock.utc(begin, begin + bits)]
+            [
+                *clock.texts(begin, begin + bits, digits=digits_of(arguments.every)),
+                *mix.row(kind),
+                *clock.utc(begin, begin + bits),
+            ]
             for begin, mix in mixes_in(extent, bits)
             for kind in sorted(mix.first)
         )
