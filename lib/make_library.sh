@@ -34,5 +34,6 @@ rm -f "$out/librds.a"
 "${tools}ar" rcsD "$out/librds.a" rds.o
 "$cc" -shared -Wl,-z,defs -Wl,-z,noexecstack -Wl,-z,relro -Wl,-z,now -Wl,-soname,librds.so.0 -Wl,--version-script="$here/rds.map" \
   -o "$out/librds.so.0" rds.o
-ln -sf librds.so.0 "$out/librds.so"
+# not a symbolic link: `rt ci` refuses a tree with one
+ln -f "$out/librds.so.0" "$out/librds.so"
 cp "$here/rds.h" "$out/rds.h"

@@ -85,7 +85,9 @@ def test_first_instruction_of_each_function(librds: str) -> None:
 
 def test_files_of_the_library(librds: str, cases: Cases) -> None:
     cases(5)
-    assert os.readlink(f"{librds}/librds.so") == "librds.so.0"
+    both = [f"{librds}/{name}" for name in ("librds.so", "librds.so.0")]
+    # `rt ci` refuses a tree with a symbolic link.
+    assert os.path.samefile(*both) and not any(map(os.path.islink, both))
     assert Path(f"{librds}/rds.h").read_text() == HEADER
     for name in ("librds.a", "librds.so.0"):
         held = Path(f"{librds}/{name}").read_bytes()

@@ -19,7 +19,7 @@ import pytest
 import zstandard
 from hypothesis import HealthCheck, given, settings, strategies as st
 
-from conftest import encode, rds
+from conftest import COMMAND, STATION, encode, ran, rds
 from made import acquired_row, block, damaged, group_row, joined, listing, lock, loss_row, read, run, said
 from rds_monitor.rows import extent, listing as of_listing, opening, recording
 from rds_monitor.rows.heads import HEADER, is_known, is_listing
@@ -492,6 +492,11 @@ def test_a_part_in_chunks_begins_with_the_first() -> None:
 
 
 # ---- compressed inputs
+
+
+def test_a_file_without_standard_input(station: bytes) -> None:
+    done = ran(["sh", "-c", '"$@" <&-', "sh", *COMMAND, "errors", STATION])
+    assert done.returncode == 0 and done.stdout.splitlines() == said("errors", data=station)
 
 
 COMPRESSED = {

@@ -128,24 +128,6 @@ CREATE VIEW down AS
       begin_at AS end_at FROM covered)
   SELECT station, gaps.begin_at, gaps.end_at, gaps.end_at = watched_rows.end_at AS lasts
   FROM gaps JOIN watched_rows ON watched_rows.id = gaps.id WHERE gaps.end_at - gaps.begin_at > 0.1;
--- By day of UTC, of the sessions whose start is known. A minute belongs to the day in which it begins. The last four add up to a day.
-CREATE VIEW days AS
-  WITH RECURSIVE cut(station, kind, day, begin_at, end_at) AS (
-    SELECT station, kind, CAST(begin_at / 86400 AS INTEGER), begin_at, end_at FROM spans
-    UNION ALL SELECT station, kind, day + 1, (day + 1) * 86400.0, end_at FROM cut WHERE end_at > (day + 1) * 86400.0),
-  seconds AS (
-    SELECT station, day, SUM((kind = 'watched') * length) AS watched, SUM((kind = 'session') * length) AS session,
-      SUM((kind = 'noise') * length) AS noise
-    FROM (SELECT station, kind, day, MIN(end_at, (day + 1) * 86400.0) - begin_at AS length FROM cut) GROUP BY station, day),
-  counted AS (
-    SELECT station, CAST((start + minute * minute_bits / rate) / 86400 AS INTEGER) AS day,
-      SUM(sent * 26 / rate) / 3600 AS hours, SUM(sent) AS sent, SUM(valid) AS valid
-    FROM minute_rows {JOIN} WHERE start IS NOT NULL GROUP BY 1, 2)
-  SELECT seconds.station, date(seconds.day * 86400, 'unixepoch') AS day, ROUND(COALESCE(hours, 0), 2) AS hours,
-    COALESCE(sent, 0) AS sent, COALESCE(valid, 0) AS valid, ROUND(100.0 * valid / sent, 2) AS valid_percent,
-    ROUND(session - noise, 3) AS received_s, ROUND(noise, 3) AS noise_s, ROUND(MAX(watched - session, 0), 3) AS down_s,
-    ROUND(86400 - MAX(watched, session), 3) AS unknown_s
-  FROM seconds LEFT JOIN counted ON counted.station IS seconds.station AND counted.day = seconds.day;
 -- By station and time. Those on both sides of a cut between two sessions are one. An end that is not known yet is empty.
 CREATE VIEW station_outages AS
   WITH told AS (
@@ -176,5 +158,29 @@ CREATE VIEW minutes AS
   FROM minute_rows {JOIN};
 """
 
+DAYS = f"""
+DROP VIEW IF EXISTS days;
+-- By day of UTC, of the sessions whose start is known. A minute belongs to the day in which it begins. The last four add up to a day:
+-- times that a clock passed twice, since it was set back, count once.
+CREATE VIEW days AS
+  WITH RECURSIVE cut(station, kind, day, begin_at, end_at) AS (
+    SELECT station, kind, CAST(begin_at / 86400 AS INTEGER), begin_at, end_at FROM spans
+    UNION ALL SELECT station, kind, day + 1, (day + 1) * 86400.0, end_at FROM cut WHERE end_at > (day + 1) * 86400.0),
+  seconds AS (
+    SELECT station, day, MIN(SUM((kind = 'watched') * length), 86400) AS watched,
+      MIN(SUM((kind = 'session') * length), 86400) AS session,
+      MIN(SUM((kind = 'noise') * length), SUM((kind = 'session') * length), 86400) AS noise
+    FROM (SELECT station, kind, day, MIN(end_at, (day + 1) * 86400.0) - begin_at AS length FROM cut) GROUP BY station, day),
+  counted AS (
+    SELECT station, CAST((start + minute * minute_bits / rate) / 86400 AS INTEGER) AS day,
+      SUM(sent * 26 / rate) / 3600 AS hours, SUM(sent) AS sent, SUM(valid) AS valid
+    FROM minute_rows {JOIN} WHERE start IS NOT NULL GROUP BY 1, 2)
+  SELECT seconds.station, date(seconds.day * 86400, 'unixepoch') AS day, ROUND(COALESCE(hours, 0), 2) AS hours,
+    COALESCE(sent, 0) AS sent, COALESCE(valid, 0) AS valid, ROUND(100.0 * valid / sent, 2) AS valid_percent,
+    ROUND(session - noise, 3) AS received_s, ROUND(noise, 3) AS noise_s, ROUND(MAX(watched - session, 0), 3) AS down_s,
+    ROUND(86400 - MAX(watched, session), 3) AS unknown_s
+  FROM seconds LEFT JOIN counted ON counted.station IS seconds.station AND counted.day = seconds.day;
+"""
+
 # The script of each version, which makes it of the one before: a database is brought up to date when it is opened.
-MIGRATIONS = (TABLES + VIEWS, WATCH, STANDING, STRENGTHS)
+MIGRATIONS = (TABLES + VIEWS, WATCH, STANDING, STRENGTHS, DAYS)

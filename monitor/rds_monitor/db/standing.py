@@ -68,6 +68,7 @@ class Availability(NamedTuple):
 def availability(data: sqlite3.Connection, station: str, begin: float, end: float) -> Availability:
     query = "SELECT kind, SUM(MIN(end_at, ?) - MAX(begin_at, ?)) FROM spans WHERE station = ? AND begin_at < ? AND end_at > ? GROUP BY kind"
     found = dict(data.execute(query, (end, begin, station, end, begin)).fetchall())
-    session = min(found.get("session", 0.0), end - begin)
-    noise, known = min(found.get("noise", 0.0), session), max(session, found.get("watched", 0.0))
+    # Times that a clock passed twice, since it was set back, count once.
+    session, watched = (min(found.get(kind, 0.0), end - begin) for kind in ("session", "watched"))
+    noise, known = min(found.get("noise", 0.0), session), max(session, watched)
     return Availability(session - noise, noise, known - session, end - begin - known)

@@ -42,8 +42,8 @@ def _open(path: str) -> Tuple[Readable, Optional[int]]:
     """The stream, and its size if it is a file with a name."""
     try:
         # Without a buffer, so that the rows of a stream are read as they come.
-        given: Any = sys.stdin.buffer
-        stream = getattr(given, "raw", given) if path == "-" else open(path, "rb", buffering=0)
+        given: Any = sys.stdin.buffer if path == "-" else open(path, "rb", buffering=0)
+        stream = getattr(given, "raw", given)
     except OSError as error:
         raise Fault(f"{path!r} cannot be read: {error.strerror}") from None
     try:

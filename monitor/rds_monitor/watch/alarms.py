@@ -112,6 +112,8 @@ class Alarms:
             if after is not None and (name not in EXPECTED or getattr(table, name)):
                 self._alarms[name] = Alarm(0 if name in COUNTS else after, CLEAR.get(name, 0.0))
                 self._alarms[name].text = self.lasting.get(name)
+        for name in [name for name in self.lasting if name not in self._alarms]:
+            self._end(name)  # it is turned off
         self._fits = {name: [pattern_of(text) for text in getattr(table, name)] for name in ("ps", "rt")}
 
     def counted(self) -> Dict[str, Any]:
@@ -138,6 +140,9 @@ class Alarms:
             if name in self._alarms:
                 self._alarms[name].text = self.lasting[name] = text
                 self._begins[name] = self._now - seconds
+            elif name in NAMES:
+                self.lasting[name], self._begins[name] = text, self._now - seconds
+                self._end(name)
         self._since = {name: self._now - seconds for name, seconds in counted.get("ago", {}).items()}
         for name, seconds in counted.get("gone", {}).items():
             if name in self._alarms:
@@ -201,8 +206,18 @@ class Alarms:
             self.lasting[name], self._begins[name] = fault.text, self._now
             self._found.append(Change(name, True, fault.text))
         else:
-            lasted = self._now - self._begins.pop(name, self._now)
-            self._found.append(Change(name, False, f"{self.lasting.pop(name, '')}; it lasted {lasted:.0f} s"))
+            self._end(name)
+
+    def _end(self, name: str) -> None:
+        lasted = self._now - self._begins.pop(name, self._now)
+        self._found.append(Change(name, False, f"{self.lasting.pop(name, '')}; it lasted {lasted:.0f} s"))
+
+    def end_all(self) -> List[Change]:
+        """Of a station that is watched no more."""
+        for name in [*self.lasting]:
+            self._end(name)
+        found, self._found = self._found, []
+        return found
 
     def _judge_pace(self, passed: float, pace: Optional[BitPace]) -> None:
         if pace is None:

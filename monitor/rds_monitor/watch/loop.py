@@ -204,6 +204,9 @@ class Watch:
             self._appends.remove(first)
 
     def _give(self) -> None:
+        if self._writer.fault is not None and self._now.steady >= self._tidy_at:
+            self._tidy_at = self._now.steady + TIDY_EVERY
+            self._writer.make_room(partial(self._tidy, self.utc, False))
         if not self._writer.is_idle:
             if self._writer.fault is not None:
                 seen = AlarmChanged, StateSeen
@@ -220,7 +223,7 @@ class Watch:
             after.append(partial(self._write_pages, states, utc))
         if is_well and steady >= self._tidy_at:
             self._tidy_at = steady + TIDY_EVERY
-            after.append(partial(self._tidy, utc))
+            after.append(partial(self._tidy, utc, True))
         if is_well and self._closed:
             after.append(partial(self._compress, self._closed.popleft()))
         if self._appends or self._records or after:
@@ -236,7 +239,8 @@ class Watch:
         write_pages(os.path.join(self._folder, "pages"), states, days, lasting, utc, data, refresh)
         replace(os.path.join(self._folder, "metrics.prom"), metrics_text(states, days, lasting, utc))
 
-    def _tidy(self, utc: float, records: Records) -> None:
+    def _tidy(self, utc: float, is_well: bool, records: Records) -> None:
+        """Hours that may be open in the database once it can be written are not compressed."""
         try:
             removed, plain = tidy(self._folder, self._keep, utc, records)
         except (OSError, sqlite3.Error) as error:
@@ -244,7 +248,7 @@ class Watch:
             return
         if removed:
             self._say("info", f"{len(removed)} hours are removed, up to {removed[-1]}")
-        if self._keep.compress and not self._closed:
+        if is_well and self._keep.compress and not self._closed:
             self._closed.extend(plain)
 
     def _compress(self, path: str, records: Records) -> None:
@@ -271,6 +275,7 @@ class Watch:
                 new.alarms = old.alarms
                 new.alarms.set_table(station)
         for old in before.values():
+            old.end_alarms(self.utc)
             self._stop(old, "it is no longer in the table")
         names = {receiver.name for receiver in table.receivers}
         self._shared = {name: shared for name, shared in self._shared.items() if name in names}

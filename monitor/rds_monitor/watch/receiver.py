@@ -137,6 +137,8 @@ class Keeper:
             if not self._stopped and now >= self._again:
                 return self._start(now)
             return b""
+        if self._killing is not None and now - self._killing > GRACE:
+            self._it.kill()  # also if it goes on giving bytes
         data = self._it.read()
         if data:
             self.last_byte = now
@@ -165,9 +167,8 @@ class Keeper:
             self._end(now, self.reason if self._killing is not None and self.reason else ended)
             return None
         if self._killing is not None:
-            if now - self._killing > GRACE:
-                self._it.kill()
-        elif no_output and now - max(self.last_byte, self._began) > min(GRACE, self.patience):
+            return b""
+        if no_output and now - max(self.last_byte, self._began) > min(GRACE, self.patience):
             self.stop_run(now, "closed its output")
         elif now - max(self.last_byte, self._began) > self.patience:
             self.stop_run(now, f"gave no byte for {self.patience:g} s")

@@ -125,6 +125,10 @@ class Records:
         self._rows = SessionRows(self.database, idle_too=True)
         self._parts: Dict[PartKey, int] = {}
 
+    def wait(self, seconds: float) -> None:
+        """For another writer, from now on."""
+        self.database.execute(f"PRAGMA busy_timeout = {round(1000 * seconds)}")
+
     def close(self) -> None:
         self.database.close()
 
@@ -199,7 +203,7 @@ class Records:
 
     def open_parts(self) -> "List[OpenPart]":
         """The parts that no PartGrew closed, the oldest first."""
-        columns = "name, number, start, rate, begin_place, end_place, path, bytes"
+        columns = "name, number, start, rate, begin_place, end_place, path, bytes, quiet_place"
         query = f"SELECT {columns} {PARTS} WHERE is_open ORDER BY start, number"
         rows = self.database.execute(query).fetchall()
         return [OpenPart(PartKey(*row[:2]), Timing(*row[2:4]), *row[4:]) for row in rows]
@@ -226,3 +230,4 @@ class OpenPart(NamedTuple):
     end: int
     path: str
     size: int
+    quiet: Optional[int] = None

@@ -40,7 +40,7 @@ def _open(folder: str, station: str, path: str, records: Records) -> None:
     hour = hour_of(path)
     assert hour is not None
     make_whole(os.path.join(folder, path))
-    rows = rows_of(os.path.join(folder, path))[0]
+    rows = _readable(os.path.join(folder, path))[0]
     if len(rows):
         timing = Timing(hour.start, hour.rate)
         begin = max(0, int(rows["place"][0]) - BLOCK_BITS)
@@ -59,6 +59,14 @@ def rows_of(path: str) -> Tuple[Rows, List[int]]:
     return rows, (numpy.flatnonzero(numpy.frombuffer(data, "u1") == 10)[: len(rows)] + 1).tolist()
 
 
+def _readable(path: str) -> Tuple[Rows, List[int]]:
+    """No row of a file that is damaged: one hour must not keep all stations from being watched."""
+    try:
+        return rows_of(path)
+    except Fault:
+        return rows_of(os.devnull)
+
+
 def replay(folder: str, opened: OpenPart, records: Records) -> None:
     """Takes the rows of a part once more, and writes what the database lacks: it has what the first bytes of the file tell."""
     path = os.path.join(folder, opened.path)
@@ -68,8 +76,10 @@ def replay(folder: str, opened: OpenPart, records: Records) -> None:
         for event in contents.decoder.feed(before):
             contents.take(event)
         contents.outages.add(before)
+    if contents.outages.end is None:
+        contents.outages.end = opened.quiet  # an outage that began before that hour
     part = Part(Clock(*opened.timing), opened.begin, contents)
-    rows, ends = rows_of(path if size else os.devnull)
+    rows, ends = _readable(path if size else os.devnull)
     told = int(numpy.searchsorted(numpy.array(ends, "i8"), opened.size, "right"))
     part.add(rows[:told])
     known = part.taken()

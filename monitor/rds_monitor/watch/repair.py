@@ -31,7 +31,12 @@ def _whole(tail: bytes) -> int:
     lines = tail[: tail.rfind(b"\n") + 1]
     if not lines:
         return 0
-    rows, bad = parse(lines)
-    if bad is None:
+    if parse(lines)[1] is None:
         return len(lines)
-    return sum(len(line) + 1 for line in lines.split(b"\n")[: bad.row])
+    # From the end on: whole rows that follow a damaged one stay.
+    while lines:
+        last = lines.rfind(b"\n", 0, -1) + 1
+        if parse(lines[last:])[1] is None:
+            break
+        lines = lines[:last]
+    return len(lines)

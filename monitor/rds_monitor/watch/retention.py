@@ -1,6 +1,8 @@
 """Removes hours and rows that are older, or larger together, than the table allows."""
 
 import os
+import sqlite3
+from contextlib import suppress
 from typing import Iterator, List, NamedTuple, Set, Tuple
 
 from ..db.schema import HELD
@@ -28,7 +30,8 @@ def tidy(folder: str, keep: Keep, utc: float, records: Records) -> Tidied:
     hours = sorted(_hours(folder))
     removed = [*_too_old(hours, keep, utc, busy)]
     for path in removed:
-        os.unlink(os.path.join(folder, path))
+        with suppress(FileNotFoundError):
+            os.unlink(os.path.join(folder, path))
     if keep.database_days:
         _forget(records, utc - keep.database_days * DAY)
     left = {path for _, path, _ in hours if path.endswith(".csv")} - busy - set(removed)
@@ -38,11 +41,20 @@ def tidy(folder: str, keep: Keep, utc: float, records: Records) -> Tidied:
 def _hours(folder: str) -> Iterator[Hour]:
     top = os.path.join(folder, "listings")
     for station in os.listdir(top) if os.path.isdir(top) else ():
-        for name in os.listdir(os.path.join(top, station)):
+        for name in _entries(os.path.join(top, station)):
             hour = hour_of(name)
-            if hour:
-                path = os.path.join("listings", station, name)
-                yield hour.begin, path, os.stat(os.path.join(folder, path)).st_size
+            path = os.path.join("listings", station, name)
+            with suppress(FileNotFoundError):  # somebody deleted it meanwhile
+                if hour:
+                    yield hour.begin, path, os.stat(os.path.join(folder, path)).st_size
+
+
+def _entries(folder: str) -> List[str]:
+    """None of what is no folder, or not ours, such as lost+found."""
+    try:
+        return os.listdir(folder)
+    except (NotADirectoryError, FileNotFoundError, PermissionError):
+        return []
 
 
 def _too_old(hours: List[Hour], keep: Keep, utc: float, busy: Set[str]) -> Iterator[str]:
@@ -68,7 +80,18 @@ def _forget(records: Records, oldest: float) -> None:
             if gone:
                 used = "SELECT 1 FROM sessions WHERE recording = recordings.id"
                 data.execute(f"DELETE FROM recordings WHERE NOT EXISTS ({used})")
-                named = " UNION ".join(f"SELECT {of} FROM minute_rows WHERE {of} NOT NULL" for of in HELD)
-                data.execute(f"DELETE FROM facts WHERE id NOT IN (SELECT fact FROM event_rows UNION {named})")
+        if gone:
+            _forget_facts(data)
     finally:
         records.forget()
+
+
+def _forget_facts(data: sqlite3.Connection) -> None:
+    """By one look at all rows: to keep foreign keys, SQLite would look at all of them again for each fact and column."""
+    named = " UNION ".join(f"SELECT {of} FROM minute_rows WHERE {of} NOT NULL" for of in HELD)
+    data.execute("PRAGMA foreign_keys = OFF")
+    try:
+        with transaction(data):
+            data.execute(f"DELETE FROM facts WHERE id NOT IN (SELECT fact FROM event_rows UNION {named})")
+    finally:
+        data.execute("PRAGMA foreign_keys = ON")

@@ -15,13 +15,14 @@ from ..signal.found import HALF_CHANNEL_HZ
 from .journal import notify, say
 from .loop import Watch
 from .receiver import Process
-from .records import Records
+from .records import WAIT, Records
 from .recover import recover
 from .table import StationTable, Table, read_table
 from .times import Times
 from .writer import Writer, WriterThread
 
 POLL, TICK = 0.1, 0.5  # how often receivers are read, and how often what they gave is decoded and written
+BEGINNING = 60.0  # for another writer of the database, before any receiver is started
 LEAVING = 5.0  # at the end, for the receivers and for the disk
 BURST = 4096 * 8 / RATE  # seconds of packed bits in the output buffer of a program, if that is a pipe
 
@@ -131,9 +132,11 @@ class Service:
             # By it a simulated receiver knows the time.
             os.environ["RDS_MONITOR_FAST"] = f"{times.begin!r} {speed!r}"
         names = [station.name for station in table.stations]
+        self._records.wait(BEGINNING)
         for path in recover(folder, names, self._records):
             say("notice", f"{path}: the last watch was killed; the hour is whole again")
         self._records.end_runs(times.now().utc)
+        self._records.wait(WAIT)
         self._writer = Writer(folder, self._records, say)
         self._thread = WriterThread(self._writer)
         self._watch = Watch(table, folder, times, Process, decoding.new, self._thread, self._records, say)

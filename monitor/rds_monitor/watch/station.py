@@ -165,12 +165,18 @@ class Station:
         held = {} if self._session is None else self._session.contents.decoder.held()
         values = {item: value.value for item, value in held.items()}
         seen = Watched(self.keeper.last_byte, self._age(steady), values, self._pace())
-        for change in self.alarms.judge(seen, steady):
-            self.changes.append(change)
-            self.records.append(AlarmChanged(self.name, change.alarm, change.begins, utc, change.text))
+        self._note(self.alarms.judge(seen, steady), utc)
         if steady >= self._news or self.changes:
             self._news = steady + NEWS * self._speed
             self.records.append(StateSeen(self.name, utc, self.state(utc)))
+
+    def _note(self, changes: List[Change], utc: float) -> None:
+        self.changes.extend(changes)
+        self.records += [AlarmChanged(self.name, one.alarm, one.begins, utc, one.text) for one in changes]
+
+    def end_alarms(self, utc: float) -> None:
+        """It leaves the table: nobody will see them end."""
+        self._note(self.alarms.end_all(), utc)
 
     def _age(self, steady: float) -> float:
         """Of the last valid block that counts. While `patience` lasts, bits of a burst may still come."""

@@ -3,6 +3,7 @@
 import os
 import sqlite3
 import threading
+import time
 import traceback
 from collections import deque
 from contextlib import suppress
@@ -83,6 +84,7 @@ class Writer:
         self._waiting: List[Record] = []
         self._after: List[Callable[[Records], None]] = []
         self.news: Deque[Record] = deque()  # what comes while rows wait
+        self.first: Deque[Callable[[Records], None]] = deque()  # what is done before the next try
         self.fault: Optional[str] = None
 
     @property
@@ -96,6 +98,8 @@ class Writer:
         self._after += batch.after
 
     def work(self) -> bool:
+        while self.first:
+            self.first.popleft()(self._records)
         if self.news:
             while self.news:
                 self._waiting.append(self.news.popleft())
@@ -176,6 +180,7 @@ class WriterThread(threading.Thread):
         self._writer, self._wake = writer, threading.Condition()
         self._given: Optional[Batch] = None
         self._busy = self._ending = False
+        self._until = 0.0
         self.crash: Optional[str] = None
 
     @property
@@ -190,6 +195,10 @@ class WriterThread(threading.Thread):
     def hear(self, news: Iterable[Record]) -> None:
         """Alarms and states, while rows cannot be written."""
         self._writer.news.extend(news)
+
+    def make_room(self, work: Callable[[Records], None]) -> None:
+        """While rows cannot be written."""
+        self._writer.first.append(work)
 
     def give(self, batch: Batch) -> None:
         with self._wake:
@@ -210,7 +219,9 @@ class WriterThread(threading.Thread):
                     if not self._wake.wait(RETRY) and self._writer.fault is not None:
                         break
                 if self._given is None and self._ending:
-                    return
+                    if self._writer.fault is None or time.monotonic() >= self._until:
+                        return
+                    self._wake.wait(0.1)  # the database may be locked for a moment
                 batch, self._given, self._busy = self._given, None, True
             if batch:
                 self._writer.give(batch)
@@ -227,6 +238,7 @@ class WriterThread(threading.Thread):
     def end(self, seconds: float) -> None:
         """Writes the rest, for at most so long."""
         with self._wake:
+            self._until = time.monotonic() + seconds - RETRY
             self._ending = True
             self._wake.notify()
         self.join(seconds)
