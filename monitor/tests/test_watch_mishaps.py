@@ -85,12 +85,12 @@ class Stubborn(Process):
 
 
 def test_a_command_that_goes_on_giving_bytes_is_killed() -> None:
-    it = Stubborn()
-    keeper = Keeper(["it"], 10.0, lambda words, through: it, 0.0)
+    command = Stubborn()
+    keeper = Keeper(["stubborn"], 10.0, lambda words, through: command, 0.0)
     assert [keeper.read(now) for now in (0.0, 1.0)] == [b"", b"x"]
     keeper.stop_run(1.0, "gave bits faster than real time")
-    assert [keeper.read(now) for now in (2.0, 3.0)] == [b"x", b"x"] and it.sent == ["SIGTERM"]
-    assert keeper.read(3.1) is None and it.sent[:2] == ["SIGTERM", "SIGKILL"]
+    assert [keeper.read(now) for now in (2.0, 3.0)] == [b"x", b"x"] and command.sent == ["SIGTERM"]
+    assert keeper.read(3.1) is None and command.sent[:2] == ["SIGTERM", "SIGKILL"]
     assert keeper.reason == "gave bits faster than real time"
     assert keeper.read(4.1) == b"" and keeper.starts == 2
 

@@ -240,7 +240,7 @@ class Watch:
         replace(os.path.join(self._folder, "metrics.prom"), metrics_text(states, days, lasting, utc))
 
     def _tidy(self, utc: float, is_well: bool, records: Records) -> None:
-        """Hours that may be open in the database once it can be written are not compressed."""
+        """While rows cannot be written no hour is compressed, since the database may not know yet that it is open."""
         try:
             removed, plain = tidy(self._folder, self._keep, utc, records)
         except (OSError, sqlite3.Error) as error:

@@ -22,7 +22,7 @@ from .times import Times
 from .writer import Writer, WriterThread
 
 POLL, TICK = 0.1, 0.5  # how often receivers are read, and how often what they gave is decoded and written
-BEGINNING = 60.0  # for another writer of the database, before any receiver is started
+BEGINNING = 60.0  # at the begin, for another writer of the database
 LEAVING = 5.0  # at the end, for the receivers and for the disk
 BURST = 4096 * 8 / RATE  # seconds of packed bits in the output buffer of a program, if that is a pipe
 
