@@ -509,6 +509,15 @@ def test_flac(signal: Array, tmp_path: Any) -> None:
     assert demodulated(tmp_path / "mpx.flac") == GROUPS[1:]
 
 
+def test_flac_of_whole_blocks(signal: Array, tmp_path: Any) -> None:
+    """No block of it is empty."""
+    soundfile = pytest.importorskip("soundfile")
+    whole = numpy.resize(signal, 3 * samples.FRAMES_PER_BLOCK)
+    soundfile.write(tmp_path / "it.flac", whole / 3, 192000)
+    source = open_samples(str(tmp_path / "it.flac"), raw=None, rate=None, channel=None, is_iq=False)
+    assert [block.size for block in source.blocks()] == 3 * [samples.FRAMES_PER_BLOCK]
+
+
 def test_flac_that_is_cut_off(signal: Array, tmp_path: Any) -> None:
     """What is there is read, then there is a fault, as of WAV."""
     soundfile = pytest.importorskip("soundfile")

@@ -5,7 +5,7 @@ import os
 import signal
 import struct
 import sys
-from contextlib import contextmanager, suppress
+from contextlib import contextmanager
 from dataclasses import dataclass
 from typing import Any, BinaryIO, Iterator, List, Optional, Tuple, Union
 
@@ -226,15 +226,18 @@ class Flac:
 
     def blocks(self) -> Iterator[Signal]:
         """The samples up to the end, or to a fault if the file is cut off. One that was written into a pipe does not say its length."""
-        count, length, read = FRAMES_PER_BLOCK, self._file.frames, 0
-        while count == FRAMES_PER_BLOCK:
+        read, length, is_over = 0, self._file.frames, False
+        while not is_over:
             frames = numpy.full((FRAMES_PER_BLOCK, self._file.channels), numpy.nan)
-            # An error does not say how many frames were read.
-            with suppress(self._errors):
-                self._file.read(out=frames)
-            count = int(numpy.isfinite(frames[:, 0]).sum())
+            try:
+                count = len(self._file.read(out=frames))
+                is_over = count < FRAMES_PER_BLOCK
+            except self._errors:
+                # An error does not say how many frames were read.
+                count, is_over = int(numpy.isfinite(frames[:, 0]).sum()), True
             read += count
-            yield channels_of(frames[:count], self._channels)
+            if count:
+                yield channels_of(frames[:count], self._channels)
         if read < length < UNKNOWN_FRAMES:
             raise Fault(f"the file is cut off: it has {read} of the {length} samples that its header says")
 
